@@ -1,0 +1,47 @@
+use crate::status::Status;
+
+/// Why a driver call was ended before it came to its exit address.
+#[derive(Clone, Copy, Debug, PartialEq, Eq)]
+pub enum Cause {
+    /// No whole instruction stands at the instruction pointer.
+    Fetch,
+    /// A price was more than the units that were left.
+    Budget,
+    /// The instruction is one that this machine does not have yet.
+    NotBuilt,
+}
+
+/// What an event is: the call of a driver's entry point.
+#[derive(Clone, Copy, Debug, PartialEq, Eq)]
+pub enum EventKind {
+    /// The entry point of an image (UEFI 2.8, 4.1: EFI_IMAGE_ENTRY_POINT).
+    Entry,
+}
+
+/// How a driver call ended.
+#[derive(Clone, Copy, Debug, PartialEq, Eq)]
+pub enum Outcome {
+    /// It came to its exit address with this value in R7.
+    Value(Status),
+    /// It was ended for this cause.
+    Trapped(Cause),
+}
+
+/// A driver call, as the report tells it.
+#[derive(Clone, Copy, Debug, PartialEq, Eq)]
+pub struct Event {
+    /// The number of the event in its command, from 1, in order of beginning.
+    pub serial: u64,
+    /// The event inside which it began, or 0 for the command itself.
+    pub parent: u64,
+    /// What was called.
+    pub kind: EventKind,
+    /// The handle of the driver; of an entry, the image's.
+    pub driver: u64,
+    /// The handle of the controller; of an entry, 0.
+    pub controller: u64,
+    /// One more number; of an entry, 0.
+    pub extra: u64,
+    /// How it ended.
+    pub result: Outcome,
+}

@@ -1,0 +1,30 @@
+//! The plain types of which every layer speaks: handles, statuses, GUIDs, commands and replies.
+//!
+//! A struct or an enum of this crate is itself the record of which the definitions speak: clauses
+//! see a `Rows` as a list, a `Text` as its bytes, a `Handle` as its number and a `Guid` as its
+//! sixteen bytes, so a command in the program and a command in a definition are compared by `≡`.
+#![tactic(auto)]
+
+mod command;
+mod dump;
+mod event;
+mod guid;
+mod handle;
+mod image;
+mod memory;
+mod reply;
+mod rows;
+mod status;
+mod text;
+
+pub use command::Command;
+pub use dump::DumpLine;
+pub use event::{Cause, Event, EventKind, Outcome};
+pub use guid::Guid;
+pub use handle::Handle;
+pub use image::{ImageNote, PeRefusal, RomEnd};
+pub use memory::OutOfMemory;
+pub use reply::Reply;
+pub use rows::Rows;
+pub use status::Status;
+pub use text::Text;
