@@ -28,3 +28,6 @@ pub use reply::Reply;
 pub use rows::Rows;
 pub use status::Status;
 pub use text::Text;
+
+#[cfg(test)]
+mod tests;
