@@ -1,0 +1,62 @@
+ghost use Rattle.std.specs.Prelude.{◌≡◌, ◌≤◌, ◌<◌, ℕ, List, Option, take, length, IfOk, OnOk, OnErr};
+ghost use Rattle.fw_shelf.specs.Faults.{Rose};
+ghost use Rattle.fw_shelf.specs.Sink.{with_bytes, TakesPrefix};
+
+use thiserror::Error;
+
+/// A sink did not take bytes, since the outside failed, which the sink counts.
+#[derive(Clone, Copy, Debug, PartialEq, Eq, Error)]
+#[error("the sink failed")]
+pub struct SinkFailed;
+
+/// Where bytes go.
+pub trait Sink {
+    /// The bytes taken so far, where the sink tells them.
+    ghost taken: { Self → Option (List ℕ) };
+
+    /// How often the outside failed, which never falls.
+    ghost faults: { Self → ℕ };
+
+    /// What writes may make of a sink.
+    ghost becomes: { Self → Self → Type 0 };
+
+    /// Takes some of the first bytes of `piece`, and answers how many: at least one of a piece
+    /// that is not empty.
+    ///
+    /// `SinkFailed` where the outside failed in this call; then nothing was taken.
+    fn write(&mut self, piece: &[u8]) -> Result<usize, SinkFailed>
+        ensures count { IfOk result (λ n. n ≤ length piece.now) }
+        ensures some { IfOk result (λ n. 0 < length piece.now → 0 < n) }
+        ensures taken { IfOk result
+            (λ n. taken self.new ≡ with_bytes (taken self.old) (take n piece.now)) }
+        ensures failed { OnErr result (Rose (faults self.old) (faults self.new)) }
+        ensures unchanged { OnErr result (taken self.new ≡ taken self.old) }
+        ensures faults { faults self.old ≤ faults self.new }
+        ensures becomes { becomes self.old self.new };
+
+    /// A sink becomes itself.
+    ghost becomes_same: { (sink : Self) → becomes sink sink };
+
+    /// What a sink becomes in two parts, it becomes.
+    ghost becomes_again: { (a b c : Self) → becomes a b → becomes b c → becomes a c };
+}
+
+/// Writes a whole piece, in as many writes as the sink wants; none for an empty piece.
+///
+/// `SinkFailed` where a write failed, which is then the last: the sink has taken a front of the
+/// piece, and not all of it. Takes no memory.
+pub fn write_all<K: Sink>(sink: &mut K, piece: &[u8]) -> Result<(), SinkFailed>
+    ensures ok { OnOk result (K.taken sink.new ≡ with_bytes (K.taken sink.old) piece.now) }
+    ensures failed { OnErr result (Rose (K.faults sink.old) (K.faults sink.new)) }
+    ensures prefix { OnErr result (TakesPrefix (K.taken sink.old) piece.now (K.taken sink.new)) }
+    ensures empty { length piece.now ≡ 0 → sink.new ≡ sink.old }
+    ensures faults { K.faults sink.old ≤ K.faults sink.new }
+    ensures becomes { K.becomes sink.old sink.new }
+{
+    let mut done = 0;
+    while done < piece.len() {
+        let count = sink.write(&piece[done..])?;
+        done += count;
+    }
+    Ok(())
+}
