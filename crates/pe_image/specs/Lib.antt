@@ -1,0 +1,4 @@
+pub mod MadeImage
+pub mod ImageRules
+pub mod LaidImage
+pub mod Frame
