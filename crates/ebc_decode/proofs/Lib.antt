@@ -1,0 +1,4 @@
+pub mod IndexLemmas
+pub mod KeptBits
+pub mod LittleEndian
+pub mod SpellingLemmas
