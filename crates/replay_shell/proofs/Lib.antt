@@ -1,0 +1,5 @@
+pub mod LinesLemmas
+pub mod ReplayLemmas
+pub mod ReportLemmas
+pub mod RunLemmas
+pub mod ScriptLemmas

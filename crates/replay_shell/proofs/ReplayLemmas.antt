@@ -1,0 +1,135 @@
+-- How a replay goes on by a command.
+use Rattle.std.proofs.Common.{inr, ◌≡◌, ℕ, zero, suc, ◌+◌, ◌<◌, ◌≤◌, Bool, true, false, List, [], ◌∷◌, ◌++◌, length, take, drop, refl, sym, ap, ◌∙◌, arith, append_assoc, length-append, drop-cons, get_or, add-one}
+use Rattle.std.specs.Prelude.{Option, Some, None, Result, Ok, Err, slice_get}
+use Rattle.std.specs.List.{concat}
+use Rattle.std.specs.Option.{option_map_or}
+use Rattle.std.proofs.lemmas.List.{append-nil}
+use Rattle.std.proofs.lemmas.Grind.{common_steps}
+use Rattle.fw_types.specs.declared.command.Command.{Command}
+use Rattle.fw_shelf.specs.Shelf.{Files}
+use Rattle.fw_shelf.specs.Sink.{with_bytes, TakesPrefix}
+use Rattle.replay_shell.specs.declared.machine.Machine.{Machine}
+use Rattle.replay_shell.specs.DriverModel.{booted, exec, texts}
+use Rattle.replay_shell.specs.Headline.{EndsWith, answer, reads_at}
+use Rattle.replay_shell.specs.declared.replay.Stop.{Stop}
+use Rattle.replay_shell.specs.declared.replay.Stop.TheVariants.{Shelf, Sink, Memory}
+use Rattle.replay_shell.specs.Replay.{Replays, TakesTurn, text_of}
+
+-- after the first commands the machine has the other texts before it, and their texts were taken
+pub record SoFar (files : Files) (commands : List Command) (done : ℕ) (machine : Machine) (old now : Option (List ℕ)) : Type 0 where
+  pub left : texts files machine (drop done commands) ≡ drop done (texts files booted commands)
+  pub taken : now ≡ with_bytes old (concat (take done (texts files booted commands)))
+
+-- bytes behind bytes
+pub with_bytes-with_bytes : (taken : Option (List ℕ)) (xs ys : List ℕ) → with_bytes (with_bytes taken xs) ys ≡ with_bytes taken (xs ++ ys)
+with_bytes-with_bytes None xs ys = refl
+with_bytes-with_bytes (Some before) xs ys = ap Some (append_assoc before xs ys)
+
+with_bytes-nil : (taken : Option (List ℕ)) → with_bytes taken [] ≡ taken
+with_bytes-nil None = refl
+with_bytes-nil (Some before) = ap Some (append-nil before)
+
+-- a list of lists with one that stands at a place
+concat-take : (xss rest : List (List ℕ)) (i : ℕ) (x : List ℕ) → drop i xss ≡ x ∷ rest → concat (take (suc i) xss) ≡ concat (take i xss) ++ x
+concat-take [] rest zero x h = absurd (cc)
+concat-take [] rest (suc i) x h = absurd (cc)
+concat-take (y ∷ ys) rest zero x h = let same : y ≡ x = cc in append-nil y ∙ same
+concat-take (y ∷ ys) rest (suc i) x h = ap (λ (zs : List ℕ). y ++ zs) (concat-take ys rest i x h) ∙ sym (append_assoc y (concat (take i ys)) x)
+
+concat-split : (xss rest : List (List ℕ)) (i : ℕ) (x : List ℕ) → drop i xss ≡ x ∷ rest → concat xss ≡ concat (take i xss) ++ (x ++ concat rest)
+concat-split xss rest zero x h = ap concat h
+concat-split [] rest (suc i) x h = absurd (cc)
+concat-split (y ∷ ys) rest (suc i) x h = ap (λ (zs : List ℕ). y ++ zs) (concat-split ys rest i x h) ∙ sym (append_assoc y (concat (take i ys)) (x ++ concat rest))
+
+drop-suc : (xss rest : List (List ℕ)) (i : ℕ) (x : List ℕ) → drop i xss ≡ x ∷ rest → drop (suc i) xss ≡ rest
+drop-suc xss rest zero x h = ap (drop 1) h
+drop-suc [] rest (suc i) x h = absurd (cc)
+drop-suc (y ∷ ys) rest (suc i) x h = drop-suc ys rest i x h
+
+-- the command at a place
+pub record StandsAt (commands : List Command) (i : ℕ) (command : Command) : Type 0 where
+  pub here : drop i commands ≡ command ∷ drop (suc i) commands
+  pub got : slice_get commands i ≡ Some command
+
+pub stands_at : (commands : List Command) (i : ℕ) (command : Command) → i < length commands → command ≡ get_or commands i command → StandsAt commands i command
+stands_at [] i command within is = absurd (omega arith)
+stands_at (x ∷ xs) zero command within is = let same : x ≡ command = sym is in record { here = ap (λ (c : Command). c ∷ xs) same; got = ap Some same }
+stands_at (x ∷ xs) (suc i) command within is = let later = stands_at xs i command (omega arith) is in record { here = later.here; got = later.got }
+
+-- the texts from a command on
+texts-here : (files : Files) (commands : List Command) (i : ℕ) (machine : Machine) (old now : Option (List ℕ)) (command : Command) → SoFar files commands i machine old now → StandsAt commands i command
+    → drop i (texts files booted commands) ≡ text_of files machine command ∷ texts files (exec command files machine).1 (drop (suc i) commands)
+texts-here files commands i machine old now command so_far there = sym so_far.left ∙ ap (texts files machine) there.here
+
+-- one command more
+pub SoFar-more : (files : Files) (commands : List Command) (i : ℕ) (machine next : Machine) (old now new : Option (List ℕ)) (command : Command) → SoFar files commands i machine old now → StandsAt commands i command
+    → next ≡ (exec command files machine).1 → new ≡ with_bytes now (text_of files machine command) → SoFar files commands (i + 1) next old new
+SoFar-more files commands i machine next old now new command so_far there went wrote =
+    let all = texts files booted commands in
+    let text = text_of files machine command in
+    let rest = texts files (exec command files machine).1 (drop (suc i) commands) in
+    let here : drop i all ≡ text ∷ rest = texts-here files commands i machine old now command so_far there in
+    rw (add-one i) (record {
+      left = ap (λ (m : Machine). texts files m (drop (suc i) commands)) went ∙ sym (drop-suc all rest i text here);
+      taken = wrote ∙ ap (λ (t : Option (List ℕ)). with_bytes t text) so_far.taken ∙ with_bytes-with_bytes old (concat (take i all)) text ∙ ap (with_bytes old) (sym (concat-take all rest i text here));
+    })
+
+drop-past : (commands : List Command) (i : ℕ) → length commands ≤ i → drop i commands ≡ []
+drop-past commands i past = grind (arith, common_steps)
+
+take-past : (xss : List (List ℕ)) (i : ℕ) → drop i xss ≡ [] → take i xss ≡ xss
+take-past xss zero gone = sym gone
+take-past [] (suc i) gone = refl
+take-past (x ∷ xs) (suc i) gone = ap (λ (ys : List (List ℕ)). x ∷ ys) (take-past xs i gone)
+
+take-append-le : (n : ℕ) (xs ys : List ℕ) → n < length xs → take n (xs ++ ys) ≡ take n xs
+take-append-le zero xs ys h = refl
+take-append-le (suc n) [] ys h = absurd (omega arith)
+take-append-le (suc n) (x ∷ xs) ys h = ap (λ (zs : List ℕ). x ∷ zs) (take-append-le n xs ys (omega arith))
+
+-- the end of all commands
+pub SoFar-end : (files : Files) (commands : List Command) (i : ℕ) (machine : Machine) (old now : Option (List ℕ)) → length commands ≤ i → SoFar files commands i machine old now → now ≡ with_bytes old (concat (texts files booted commands))
+SoFar-end files commands i machine old now past so_far =
+    let all = texts files booted commands in
+    let none : drop i commands ≡ [] = drop-past commands i past in
+    let gone : drop i all ≡ [] = sym so_far.left ∙ ap (texts files machine) none in
+    so_far.taken ∙ ap (λ (xss : List (List ℕ)). with_bytes old (concat xss)) (take-past all i gone)
+
+front-of : (xs ys : List ℕ) (n : ℕ) → take (length xs + n) (xs ++ ys) ≡ xs ++ take n ys
+front-of [] ys n = let same : 0 + n ≡ n = omega arith in ap (λ (k : ℕ). take k ys) same
+front-of (x ∷ xs) ys n = let next : suc (length xs) + n ≡ suc (length xs + n) = omega arith in rw next (ap (λ (zs : List ℕ). x ∷ zs) (front-of xs ys n))
+
+-- how a replay ends where one command is the last
+pub stopped-here : (files : Files) (commands : List Command) (i : ℕ) (machine : Machine) (old now new : Option (List ℕ)) (command : Command) (stop : Stop) → SoFar files commands i machine old now → StandsAt commands i command
+    → TakesTurn files machine command (Err stop) now new → Replays files commands (Err stop) old new
+stopped-here files commands i machine old now new command Shelf so_far there took =
+    let reads : reads_at commands i ≡ true = rw there.got took.0 in
+    inr (i, reads, took.1 ∙ so_far.taken)
+stopped-here files commands i machine old now new command Memory so_far there took =
+    let all = texts files booted commands in
+    let text = text_of files machine command in
+    let rest = texts files (exec command files machine).1 (drop (suc i) commands) in
+    let here : drop i all ≡ text ∷ rest = texts-here files commands i machine old now command so_far there in
+    let front = concat (take i all) in
+    let whole : concat all ≡ front ++ (text ++ concat rest) = concat-split all rest i text here in
+    (length front + 0, took ∙ so_far.taken ∙ ap (with_bytes old) (sym (append-nil front) ∙ sym (front-of front (text ++ concat rest) 0) ∙ ap (take (length front + 0)) (sym whole)))
+stopped-here files commands i machine old now new command Sink so_far there took =
+    let all = texts files booted commands in
+    let text = text_of files machine command in
+    let rest = texts files (exec command files machine).1 (drop (suc i) commands) in
+    let here : drop i all ≡ text ∷ rest = texts-here files commands i machine old now command so_far there in
+    let front = concat (take i all) in
+    let n = took.0 in
+    let whole : concat all ≡ front ++ (text ++ concat rest) = concat-split all rest i text here in
+    let short : length front + n < length (concat all) = rw whole (omega (arith, took.1, length-append front (text ++ concat rest), length-append text (concat rest))) in (
+      length front + n,
+      short,
+      took.2 ∙ ap (λ (t : Option (List ℕ)). with_bytes t (take n text)) so_far.taken ∙ with_bytes-with_bytes old front (take n text)
+          ∙ ap (with_bytes old) (ap (λ (xs : List ℕ). front ++ xs) (sym (take-append-le n text (concat rest) took.1)) ∙ sym (front-of front (text ++ concat rest) n) ∙ ap (take (length front + n)) (sym whole)),
+    )
+
+-- where a replay stopped, so did the answer that is its report
+pub EndsWith-stopped : (files : Files) (commands : List Command) (stop : Stop) (old new : Option (List ℕ)) → Replays files commands (Err stop) old new → EndsWith (answer 0 (concat (texts files booted commands))) files commands (Err stop) old new
+EndsWith-stopped files commands Shelf old new h = h
+EndsWith-stopped files commands Sink old new h = h
+EndsWith-stopped files commands Memory old new h = h

@@ -1,0 +1,73 @@
+-- The driver-model machine: what each command gives, and the replies to a script.
+use Rattle.std.specs.Prelude.{ℕ, ◌-◌, List, [], ◌∷◌, None, Option, Some, Result, Ok, Err}
+use Rattle.fw_types.specs.declared.status.Status.{Status}
+use Rattle.fw_types.specs.declared.command.Command.{Command}
+use Rattle.fw_types.specs.declared.command.Command.TheVariants as command
+use Rattle.fw_types.specs.declared.image.ImageNote.{ImageNote}
+use Rattle.fw_types.specs.declared.reply.Reply.{Reply}
+use Rattle.fw_shelf.specs.Shelf.{Files, file_of}
+use Rattle.fw_shelf.specs.declared.shelf.ShelfFault.{ShelfFault}
+use Rattle.replay_shell.specs.declared.machine.Machine.{Machine}
+use Rattle.replay_shell.specs.declared.machine.Ending.{Ending}
+use Rattle.replay_shell.specs.World.{State, begin_command, without_events}
+use Rattle.replay_shell.specs.ImageLife.{Load, load_error, loaded, not_found}
+use Rattle.replay_shell.specs.Report.{reply_text}
+
+-- the units of each command
+abbrev pub command_budget : ℕ
+command_budget = 4194304
+
+-- no image, two handles, and the first address of images
+abbrev pub opening : State
+opening = record {
+  soft = record { images = []; next_handle = 3; next_image = 0x2000000 };
+  hard = record { units = 0; events = [] };
+}
+
+abbrev pub booted : Machine
+booted = record { world = opening }
+
+-- what a command came to: notes on its images, its status, and the world then
+pub record Done : Type 0 where
+  pub images : List ImageNote
+  pub status : Status
+  pub world : State
+
+-- what the code tells of a command, with the world behind it
+abbrev pub came_of : Ending → State → Done
+came_of ending w = record { images = ending.images.items; status = ending.status; world = w }
+
+-- a file of one image was loaded
+abbrev pub noted : Load → Done
+noted load = record { images = load.note ∷ []; status = load.status; world = load.world }
+
+-- a load of what stands under a name: a file, nothing, or a file that is too long
+abbrev pub load_done : Result (Option (List ℕ)) ShelfFault → State → Done
+load_done (Ok None) w = record { images = []; status = not_found; world = w }
+load_done (Ok (Some file)) w = noted (loaded file w)
+load_done (Err fault) w = record { images = []; status = load_error; world = w }
+
+-- the reply tells the units that were spent, and takes the events away
+abbrev pub replied : Done → Reply × Machine
+replied done = (
+  record {
+    status = done.status;
+    units = command_budget - done.world.hard.units;
+    events = done.world.hard.events;
+    images = done.images;
+    rom = None;
+    dump = [];
+  },
+  record { world = without_events done.world },
+)
+
+-- what a command gives over files, and the machine behind it
+abbrev pub exec : Command → Files → Machine → Reply × Machine
+exec (command.Load name) files machine = replied (load_done (file_of files name) (begin_command command_budget machine.world))
+
+-- the texts of commands and their replies, one after the other
+abbrev pub texts : Files → Machine → List Command → List (List ℕ)
+texts files machine [] = []
+texts files machine (command ∷ commands) =
+    let done : Reply × Machine = exec command files machine in
+    reply_text command done.0 ∷ texts files done.1 commands

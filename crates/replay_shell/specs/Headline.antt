@@ -1,0 +1,126 @@
+-- What the program answers to its words over the files that a shelf holds: a status and the whole
+-- text that it writes.
+use Rattle.std.specs.Prelude.{◌≡◌, ℕ, ◌<◌, List, [], ◌∷◌, Bool, true, false, ◌||◌, Option, Some, None, Result, Ok, Err, bytes_eq, codes, length, map, nat_eq, slice_get, take, String, string_bytes, ◌⊎◌, if◌then◌else◌}
+use Rattle.std.specs.List.{concat}
+use Rattle.std.specs.Option.{option_map_or}
+use Rattle.std.specs.declared.alloc.Global.{Global}
+use Rattle.fw_types.specs.declared.command.Command.{Command}
+use Rattle.fw_types.specs.declared.command.Command.TheVariants.{Load}
+use Rattle.fw_shelf.specs.Shelf.{Files, file_of}
+use Rattle.fw_shelf.specs.Sink.{with_bytes, TakesPrefix}
+use Rattle.fw_shelf.specs.declared.shelf.ShelfFault.{ShelfFault}
+use Rattle.replay_shell.specs.declared.replay.Stop.{Stop}
+use Rattle.replay_shell.specs.declared.replay.Stop.TheVariants.{Shelf, Sink, Memory}
+use Rattle.replay_shell.specs.declared.script.Script.{Script}
+use Rattle.replay_shell.specs.declared.script.ScriptFault.{ScriptFault}
+use Rattle.replay_shell.specs.declared.script.ScriptFault.TheVariants.{Refused, OutOfMemory}
+use Rattle.replay_shell.specs.ScriptGrammar.{script_of}
+use Rattle.replay_shell.specs.DriverModel.{booted, texts}
+use Rattle.replay_shell.specs.OtherTexts.{absent_line, refused_line, too_long_line, usage_line}
+
+-- The words.
+
+-- the words as lists of bytes
+abbrev pub words_in : List (String Global) → List (List ℕ)
+words_in words = map string_bytes words
+
+-- what the words ask for: the report of a script
+pub data Form : Type 0 where
+  run : List ℕ → Form
+
+abbrev pub form_of : List (List ℕ) → Option Form
+form_of [] = None
+form_of (verb ∷ []) = None
+form_of (verb ∷ name ∷ []) = if bytes_eq verb (codes "run") then Some (run name) else None
+form_of (verb ∷ name ∷ other ∷ others) = None
+
+-- The answer.
+
+pub record Answer : Type 0 where
+  pub status : ℕ
+  pub text : List ℕ
+
+abbrev pub answer : ℕ → List ℕ → Answer
+answer status text = record { status = status; text = text }
+
+-- the report of a script, or the line that tells which of its lines is refused; want of memory is
+-- nothing that a grammar tells
+abbrev pub script_answer : Files → Result Script ScriptFault → Answer
+script_answer files (Ok script) = answer 0 (concat (texts files booted script.commands))
+script_answer files (Err (Refused number kind)) = answer 2 (refused_line number kind)
+script_answer files (Err OutOfMemory) = answer 5 []
+
+-- the script is absent, there, or too long
+abbrev pub file_answer : Files → Result (Option (List ℕ)) ShelfFault → Answer
+file_answer files (Ok None) = answer 6 absent_line
+file_answer files (Ok (Some bytes)) = script_answer files (script_of bytes)
+file_answer files (Err fault) = answer 7 too_long_line
+
+abbrev pub form_answer : Files → Option Form → Answer
+form_answer files None = answer 1 usage_line
+form_answer files (Some (run name)) = file_answer files (file_of files name)
+
+-- the answer to words over these files
+abbrev pub answer_of : Files → List (List ℕ) → Answer
+answer_of files words = form_answer files (form_of words)
+
+-- The commands that the words ask for: those of the script, and none where there is no script.
+
+abbrev pub script_commands : Result Script ScriptFault → List Command
+script_commands (Ok script) = script.commands
+script_commands (Err fault) = []
+
+abbrev pub file_commands : Result (Option (List ℕ)) ShelfFault → List Command
+file_commands (Ok None) = []
+file_commands (Ok (Some bytes)) = script_commands (script_of bytes)
+file_commands (Err fault) = []
+
+abbrev pub form_commands : Files → Option Form → List Command
+form_commands files None = []
+form_commands files (Some (run name)) = file_commands (file_of files name)
+
+abbrev pub commands_for : Files → List (List ℕ) → List Command
+commands_for files words = form_commands files (form_of words)
+
+-- How the program may end.
+
+-- whether a status says that it gave up: the shelf failed, the sink failed, or memory ran out
+abbrev pub gave_up : ℕ → Bool
+gave_up status = nat_eq status 3 || nat_eq status 4 || nat_eq status 5
+
+-- a front of a text was taken
+abbrev pub TakesFront : Option (List ℕ) → List ℕ → Option (List ℕ) → Type 0
+TakesFront old text new = (n : ℕ) × (new ≡ with_bytes old (take n text))
+
+-- whether a command reads a file
+abbrev pub reads_file : Command → Bool
+reads_file (Load name) = true
+
+-- whether the command at a place reads a file
+abbrev pub reads_at : List Command → ℕ → Bool
+reads_at commands place = option_map_or reads_file (slice_get commands place) false
+
+-- nothing was taken, or the texts of the replies to the commands before one that reads a file
+abbrev pub StopsAtRead : Files → List Command → Option (List ℕ) → Option (List ℕ) → Type 0
+StopsAtRead files commands old new =
+    (new ≡ old) ⊎ ((k : ℕ) × (reads_at commands k ≡ true) × (new ≡ with_bytes old (concat (take k (texts files booted commands)))))
+
+-- How the program ends where this is its answer and these are its commands: with the answer, or it
+-- gave up and a front of the text was taken, which at a failure of the sink is not all of it.
+abbrev pub EndsWith : Answer → Files → List Command → Result ℕ Stop → Option (List ℕ) → Option (List ℕ) → Type 0
+EndsWith a files commands (Ok status) old new = (status ≡ a.status) × (new ≡ with_bytes old a.text)
+EndsWith a files commands (Err Shelf) old new = StopsAtRead files commands old new
+EndsWith a files commands (Err Sink) old new = TakesPrefix old a.text new
+EndsWith a files commands (Err Memory) old new = TakesFront old a.text new
+
+-- the same for words over files
+abbrev pub Ends : Files → List (List ℕ) → Result ℕ Stop → Option (List ℕ) → Option (List ℕ) → Type 0
+Ends files words result old new = EndsWith (answer_of files words) files (commands_for files words) result old new
+
+-- the whole text that words ask for
+abbrev pub text_for : Files → List (List ℕ) → List ℕ
+text_for files words = (answer_of files words).text
+
+-- the status is the answer's, and exactly the answer's text was taken
+abbrev pub IsAnswered : Files → List (List ℕ) → ℕ → Option (List ℕ) → Option (List ℕ) → Type 0
+IsAnswered files words status old new = (status ≡ (answer_of files words).status) × (new ≡ with_bytes old (text_for files words))

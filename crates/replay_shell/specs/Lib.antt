@@ -1,0 +1,11 @@
+pub mod ScriptGrammar
+pub mod Report
+pub mod World
+pub mod Fetch
+pub mod GuestRun
+pub mod DriverCall
+pub mod ImageLife
+pub mod DriverModel
+pub mod OtherTexts
+pub mod Headline
+pub mod Replay

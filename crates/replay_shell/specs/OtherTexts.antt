@@ -1,0 +1,27 @@
+-- What the program writes beside a report: one line each.
+use Rattle.std.specs.Prelude.{ℕ, List, [], ◌∷◌, ◌++◌, codes}
+use Rattle.std.specs.Fmt.{decimal}
+use Rattle.replay_shell.specs.declared.script.ScriptKind.{ScriptKind}
+use Rattle.replay_shell.specs.declared.script.ScriptKind.TheVariants.{TooLong, NotAscii, NotBuilt}
+use Rattle.replay_shell.specs.Report.{line}
+
+-- words of none of the program's forms
+abbrev pub usage_line : List ℕ
+usage_line = codes "usage: run SCRIPT, check SCRIPT, selftest N, disasm IMAGE" ++ 10 ∷ []
+
+-- no file stands under the name
+abbrev pub absent_line : List ℕ
+absent_line = codes "no such file" ++ 10 ∷ []
+
+-- the file has more than 16 MiB
+abbrev pub too_long_line : List ℕ
+too_long_line = codes "file too long" ++ 10 ∷ []
+
+abbrev pub kind_word : ScriptKind → List ℕ
+kind_word TooLong = codes "TooLong"
+kind_word NotAscii = codes "NotAscii"
+kind_word NotBuilt = codes "NotBuilt"
+
+-- a line of the script is refused
+abbrev pub refused_line : ℕ → ScriptKind → List ℕ
+refused_line number kind = line (codes "script" ∷ decimal number ∷ kind_word kind ∷ [])

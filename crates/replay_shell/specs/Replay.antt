@@ -1,0 +1,38 @@
+-- How a replay of a script may end, and what the sink took by then.
+use Rattle.std.specs.Prelude.{◌≡◌, true, List, ℕ, Option, Result, Ok, Err}
+use Rattle.std.specs.List.{concat}
+use Rattle.fw_types.specs.declared.command.Command.{Command}
+use Rattle.fw_types.specs.declared.reply.Reply.{Reply}
+use Rattle.fw_shelf.specs.Shelf.{Files}
+use Rattle.fw_shelf.specs.Sink.{with_bytes, TakesPrefix}
+use Rattle.replay_shell.specs.declared.machine.Machine.{Machine}
+use Rattle.replay_shell.specs.declared.machine.ExecFault.{ExecFault}
+use Rattle.replay_shell.specs.declared.machine.ExecFault.TheVariants.{ShelfFailed, OutOfMemory}
+use Rattle.replay_shell.specs.declared.replay.Stop.{Stop}
+use Rattle.replay_shell.specs.declared.replay.Stop.TheVariants.{Shelf, Sink, Memory}
+use Rattle.replay_shell.specs.Report.{reply_text}
+use Rattle.replay_shell.specs.DriverModel.{booted, exec, texts}
+use Rattle.replay_shell.specs.Headline.{StopsAtRead, TakesFront, reads_file}
+
+-- the stop that a fault of the machine makes
+abbrev pub stop_of : ExecFault → Stop
+stop_of ShelfFailed = Shelf
+stop_of OutOfMemory = Memory
+
+-- the text of one command
+abbrev pub text_of : Files → Machine → Command → List ℕ
+text_of files machine command = reply_text command (exec command files machine).0
+
+-- one command: its whole text was taken, or nothing of it unless the sink failed
+abbrev pub TakesTurn : Files → Machine → Command → Result Machine Stop → Option (List ℕ) → Option (List ℕ) → Type 0
+TakesTurn files machine command (Ok next) old new = (next ≡ (exec command files machine).1) × (new ≡ with_bytes old (text_of files machine command))
+TakesTurn files machine command (Err Shelf) old new = (reads_file command ≡ true) × (new ≡ old)
+TakesTurn files machine command (Err Sink) old new = TakesPrefix old (text_of files machine command) new
+TakesTurn files machine command (Err Memory) old new = new ≡ old
+
+-- all commands from the opening state
+abbrev pub Replays : Files → List Command → Result (Unit {0}) Stop → Option (List ℕ) → Option (List ℕ) → Type 0
+Replays files commands (Ok done) old new = new ≡ with_bytes old (concat (texts files booted commands))
+Replays files commands (Err Shelf) old new = StopsAtRead files commands old new
+Replays files commands (Err Sink) old new = TakesPrefix old (concat (texts files booted commands)) new
+Replays files commands (Err Memory) old new = TakesFront old (concat (texts files booted commands)) new

@@ -1,0 +1,101 @@
+ghost use Rattle.std.specs.Prelude.{◌≡◌, ◌≤◌, Some, IsErrOf};
+ghost use Rattle.fw_shelf.specs.Faults.{Rose};
+ghost use Rattle.fw_shelf.specs.Shelf.{Files};
+ghost use Rattle.replay_shell.specs.declared.replay.Stop.TheVariants.{Memory as MemoryStop, Sink as SinkStop};
+ghost use Rattle.replay_shell.specs.Replay.{Replays, TakesTurn, stop_of};
+
+use crate::machine::{ExecFault, Machine};
+use crate::report::render;
+use crate::script::Script;
+use fw_shelf::{Shelf, Sink, SinkFailed, write_all};
+use fw_types::{Command, OutOfMemory};
+use std::alloc::Global;
+
+/// Why the program gave up.
+#[derive(Clone, Copy, Debug, PartialEq, Eq)]
+pub enum Stop {
+    /// The shelf failed.
+    Shelf,
+    /// The sink failed.
+    Sink,
+    /// There was no memory.
+    Memory,
+}
+
+impl From<ExecFault> for Stop {
+    ghost from_gives = { λ fault stop. stop ≡ stop_of fault };
+
+    fn from(fault: ExecFault) -> Stop {
+        match fault {
+            ExecFault::ShelfFailed => Stop::Shelf,
+            ExecFault::OutOfMemory => Stop::Memory,
+        }
+    }
+}
+
+impl From<SinkFailed> for Stop {
+    ghost from_gives = { λ _ stop. stop ≡ SinkStop };
+
+    fn from(_error: SinkFailed) -> Stop {
+        Stop::Sink
+    }
+}
+
+impl From<OutOfMemory> for Stop {
+    ghost from_gives = { λ _ stop. stop ≡ MemoryStop };
+
+    fn from(_error: OutOfMemory) -> Stop {
+        Stop::Memory
+    }
+}
+
+/// Does one command, and writes its text after it has ended.
+fn take_turn<F: Shelf, K: Sink>(
+    alloc: Global,
+    machine: Machine,
+    command: &Command,
+    shelf: &mut F,
+    sink: &mut K,
+) -> Result<Machine, Stop>
+    ensures told { (files : Files) → F.held shelf.old ≡ Some files
+        → TakesTurn files machine command.now result (K.taken sink.old) (K.taken sink.new) }
+    ensures shelf_failed { IsErrOf result Stop.Shelf
+        → Rose (F.faults shelf.old) (F.faults shelf.new) }
+    ensures sink_failed { IsErrOf result Stop.Sink
+        → Rose (K.faults sink.old) (K.faults sink.new) }
+    ensures held { F.held shelf.new ≡ F.held shelf.old }
+    ensures shelf_faults { F.faults shelf.old ≤ F.faults shelf.new }
+    ensures sink_faults { K.faults sink.old ≤ K.faults sink.new }
+    ensures becomes { F.becomes shelf.old shelf.new × K.becomes sink.old sink.new }
+{
+    let (machine, reply) = machine.exec(command, shelf)?;
+    let text = render(alloc, command, &reply)?;
+    write_all(sink, text.as_bytes())?;
+    Ok(machine)
+}
+
+/// Does the commands of a script on a new machine, one after the other, and writes the text of each
+/// after it has ended.
+pub fn replay<F: Shelf, K: Sink>(
+    alloc: Global,
+    script: &Script,
+    shelf: &mut F,
+    sink: &mut K,
+) -> Result<(), Stop>
+    ensures told { (files : Files) → F.held shelf.old ≡ Some files
+        → Replays files script.now.commands result (K.taken sink.old) (K.taken sink.new) }
+    ensures shelf_failed { IsErrOf result Stop.Shelf
+        → Rose (F.faults shelf.old) (F.faults shelf.new) }
+    ensures sink_failed { IsErrOf result Stop.Sink
+        → Rose (K.faults sink.old) (K.faults sink.new) }
+    ensures held { F.held shelf.new ≡ F.held shelf.old }
+    ensures shelf_faults { F.faults shelf.old ≤ F.faults shelf.new }
+    ensures sink_faults { K.faults sink.old ≤ K.faults sink.new }
+    ensures becomes { F.becomes shelf.old shelf.new × K.becomes sink.old sink.new }
+{
+    let mut machine = Machine::boot(alloc);
+    for command in script.commands.as_slice() {
+        machine = take_turn(alloc, machine, command, shelf, sink)?;
+    }
+    Ok(())
+}

@@ -1,0 +1,131 @@
+ghost use Rattle.std.specs.Prelude.{◌≡◌, [], ◌∷◌, ◌++◌, IfOk, OnOk, codes, string_bytes};
+ghost use Rattle.std.specs.List.{flat_map};
+ghost use Rattle.std.specs.Fmt.{decimal};
+ghost use Rattle.replay_shell.specs.Report.{command_words, dump_line, event_line, image_lines, line, note_words, reply_text, rom_line};
+
+use crate::report_words::{OutcomeWord, StatusWord, end_name, kind_name, refusal_name};
+use fw_types::{Command, DumpLine, Event, ImageNote, OutOfMemory, Reply, RomEnd};
+use std::alloc::{AllocError, Global};
+use std::fmt::Write;
+
+fn write_command(out: &mut String, command: &Command) -> Result<(), AllocError>
+    ensures { OnOk result
+        (string_bytes out.new ≡ string_bytes out.old ++ line (codes ">" ∷ command_words command.now)) }
+{
+    match command {
+        Command::Load { name } => {
+            let name = name.as_str();
+            writeln!(out, "> load {name}")
+        }
+    }
+}
+
+fn write_event(out: &mut String, event: &Event) -> Result<(), AllocError>
+    ensures { OnOk result (string_bytes out.new ≡ string_bytes out.old ++ event_line event.now) }
+{
+    let kind = kind_name(event.kind);
+    let result = OutcomeWord(event.result);
+    writeln!(
+        out,
+        "{} {} {kind} {} {} {} {result}",
+        event.serial, event.parent, event.driver, event.controller, event.extra
+    )
+}
+
+fn write_events(out: &mut String, events: &[Event]) -> Result<(), AllocError>
+    ensures { OnOk result
+        (string_bytes out.new ≡ string_bytes out.old ++ flat_map event_line events.now) }
+{
+    for event in events {
+        write_event(out, event)?;
+    }
+    Ok(())
+}
+
+fn write_image(out: &mut String, number: u64, note: &ImageNote) -> Result<(), AllocError>
+    ensures { OnOk result (string_bytes out.new
+        ≡ string_bytes out.old ++ line (codes "image" ∷ decimal number ∷ note_words note.now)) }
+{
+    match note {
+        ImageNote::Loaded(handle) => {
+            let handle = handle.get();
+            writeln!(out, "image {number} handle {handle}")
+        }
+        ImageNote::Failed(status) => {
+            let status = StatusWord(*status);
+            writeln!(out, "image {number} {status}")
+        }
+        ImageNote::Refused(refusal) => {
+            let refusal = refusal_name(*refusal);
+            writeln!(out, "image {number} refused {refusal}")
+        }
+    }
+}
+
+fn write_images(out: &mut String, images: &[ImageNote]) -> Result<(), AllocError>
+    ensures { OnOk result
+        (string_bytes out.new ≡ string_bytes out.old ++ image_lines 1 images.now) }
+{
+    let mut number: u64 = 1;
+    for note in images {
+        write_image(out, number, note)?;
+        number = number.wrapping_add(1);
+    }
+    Ok(())
+}
+
+fn write_rom_end(out: &mut String, end: Option<RomEnd>) -> Result<(), AllocError>
+    ensures { OnOk result (string_bytes out.new ≡ string_bytes out.old ++ rom_line end) }
+{
+    match end {
+        Some(end) => {
+            let end = end_name(end);
+            writeln!(out, "rom {end}")
+        }
+        None => Ok(()),
+    }
+}
+
+fn write_dump_line(out: &mut String, said: &DumpLine) -> Result<(), AllocError>
+    ensures { OnOk result (string_bytes out.new ≡ string_bytes out.old ++ dump_line said.now) }
+{
+    match said {
+        DumpLine::Handle(handle) => writeln!(out, "handle {handle}"),
+        DumpLine::Proto {
+            guid,
+            interface,
+            owner,
+        } => writeln!(out, "proto {guid} 0x{interface:x} {owner}"),
+        DumpLine::Entry {
+            agent,
+            controller,
+            attr,
+            count,
+        } => writeln!(out, "open {agent} {controller} 0x{attr:x} {count}"),
+    }
+}
+
+fn write_dump(out: &mut String, dump: &[DumpLine]) -> Result<(), AllocError>
+    ensures { OnOk result
+        (string_bytes out.new ≡ string_bytes out.old ++ flat_map dump_line dump.now) }
+{
+    for said in dump {
+        write_dump_line(out, said)?;
+    }
+    Ok(())
+}
+
+/// The text of a command and its reply.
+pub fn render(alloc: Global, command: &Command, reply: &Reply) -> Result<String, OutOfMemory>
+    ensures { IfOk result (λ text. string_bytes text ≡ reply_text command.now reply.now) }
+{
+    let mut out = String::new(alloc);
+    write_command(&mut out, command)?;
+    write_events(&mut out, reply.events.as_slice())?;
+    write_images(&mut out, reply.images.as_slice())?;
+    write_rom_end(&mut out, reply.rom)?;
+    write_dump(&mut out, reply.dump.as_slice())?;
+    let status = StatusWord(reply.status);
+    writeln!(&mut out, "= {status} {}", reply.units)?;
+    Ok(out)
+}

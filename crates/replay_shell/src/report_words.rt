@@ -1,0 +1,83 @@
+ghost use Rattle.std.specs.Prelude.{◌≡◌, Some};
+ghost use Rattle.replay_shell.specs.Report.{cause_word, end_word, kind_word, outcome_word, refusal_word, status_word};
+
+use fw_types::{Cause, EventKind, Outcome, PeRefusal, RomEnd, Status};
+use std::fmt;
+
+/// A status by its name, or by its value where it has none.
+#[derive(Clone, Copy)]
+pub struct StatusWord(pub Status);
+
+impl fmt::Display for StatusWord {
+    ghost output = { λ word. Some (status_word word.0) };
+
+    #[tactic(auto, using(crate::proofs::ReportLemmas::sixteen_digits))]
+    fn fmt<W: fmt::Write>(&self, f: &mut fmt::Formatter<W>) -> fmt::Result {
+        match self.0.name() {
+            Some(name) => write!(f, "{name}"),
+            None => {
+                let value = self.0.0;
+                write!(f, "0x{value:016x}")
+            }
+        }
+    }
+}
+
+/// How a driver call ended: its value, or the cause of its trap.
+#[derive(Clone, Copy)]
+pub struct OutcomeWord(pub Outcome);
+
+impl fmt::Display for OutcomeWord {
+    ghost output = { λ word. Some (outcome_word word.0) };
+
+    fn fmt<W: fmt::Write>(&self, f: &mut fmt::Formatter<W>) -> fmt::Result {
+        match self.0 {
+            Outcome::Value(status) => {
+                let value = StatusWord(status);
+                write!(f, "{value}")
+            }
+            Outcome::Trapped(cause) => {
+                let name = cause_name(cause);
+                write!(f, "trap:{name}")
+            }
+        }
+    }
+}
+
+pub fn cause_name(cause: Cause) -> &'static str
+    ensures { result.now ≡ cause_word cause }
+{
+    match cause {
+        Cause::Fetch => "Fetch",
+        Cause::Budget => "Budget",
+        Cause::NotBuilt => "NotBuilt",
+    }
+}
+
+pub fn kind_name(kind: EventKind) -> &'static str
+    ensures { result.now ≡ kind_word kind }
+{
+    match kind {
+        EventKind::Entry => "entry",
+    }
+}
+
+pub fn refusal_name(refusal: PeRefusal) -> &'static str
+    ensures { result.now ≡ refusal_word refusal }
+{
+    match refusal {
+        PeRefusal::NotBuilt => "NotBuilt",
+    }
+}
+
+pub fn end_name(end: RomEnd) -> &'static str
+    ensures { result.now ≡ end_word end }
+{
+    match end {
+        RomEnd::Done => "Done",
+        RomEnd::BadSignature => "BadSignature",
+        RomEnd::BadPcir => "BadPcir",
+        RomEnd::LengthZero => "LengthZero",
+        RomEnd::PastEnd => "PastEnd",
+    }
+}

@@ -1,0 +1,173 @@
+ghost use Rattle.std.specs.Prelude.{◌≡◌, ◌≢◌, Ok, Some, IfErr, IfOk, IsErrOf, OnErr, List, false, is_none, nat_eq, option_map, string_bytes};
+ghost use Rattle.fw_types.specs.declared.command.Command.{Command as CommandValue};
+ghost use Rattle.fw_shelf.specs.Faults.{Rose};
+ghost use Rattle.fw_shelf.specs.Shelf.{Files, file_of};
+ghost use Rattle.replay_shell.specs.Headline.{Ends, EndsWith, answer, file_answer, file_commands, form_of, gave_up, run, script_answer, script_commands, words_in};
+ghost use Rattle.replay_shell.specs.OtherTexts.{kind_word, refused_line};
+ghost use Rattle.replay_shell.specs.ScriptGrammar.{script_of};
+
+use crate::read::parse;
+use crate::replay::{Stop, replay};
+use crate::script::{Script, ScriptFault, ScriptKind};
+use fw_shelf::{Shelf, ShelfFault, Sink, write_all};
+use fw_types::OutOfMemory;
+use std::alloc::Global;
+
+/// The name of the script, where the words are `run` and a name.
+fn script_named(words: &Vec<String>) -> Option<&str>
+    ensures { option_map (λ name. run name.now) result ≡ form_of (words_in words.now.items) }
+{
+    if words.len() == 2 && words[0].as_str() == "run" {
+        Some(words[1].as_str())
+    } else {
+        None
+    }
+}
+
+fn kind_name(kind: ScriptKind) -> &'static str
+    ensures { result.now ≡ kind_word kind }
+{
+    match kind {
+        ScriptKind::TooLong => "TooLong",
+        ScriptKind::NotAscii => "NotAscii",
+        ScriptKind::NotBuilt => "NotBuilt",
+    }
+}
+
+/// The line that tells which line of a script is refused.
+fn refusal(alloc: Global, line: u32, kind: ScriptKind) -> Result<String, OutOfMemory>
+    ensures { IfOk result (λ text. string_bytes text ≡ refused_line line kind) }
+{
+    let kind = kind_name(kind);
+    Ok(format!(in alloc; "script {line} {kind}\n")?)
+}
+
+/// Writes a line, and answers a status.
+fn say<K: Sink>(sink: &mut K, status: u8, line: &[u8]) -> Result<u8, Stop>
+    ensures told { (files : Files) (commands : List CommandValue)
+        → EndsWith (answer status line.now) files commands result (K.taken sink.old) (K.taken sink.new) }
+    ensures status { IfOk result (λ answer. answer ≡ status) }
+    ensures sink_alone { IfErr result (λ stop. stop ≡ Stop.Sink) }
+    ensures sink_failed { OnErr result (Rose (K.faults sink.old) (K.faults sink.new)) }
+    ensures becomes { K.becomes sink.old sink.new }
+{
+    write_all(sink, line)?;
+    Ok(status)
+}
+
+/// Answers that a line of the script is refused.
+fn refuse<K: Sink>(alloc: Global, line: u32, kind: ScriptKind, sink: &mut K) -> Result<u8, Stop>
+    ensures told { (files : Files) (commands : List CommandValue)
+        → EndsWith (answer 2 (refused_line line kind)) files commands result
+        (K.taken sink.old) (K.taken sink.new) }
+    ensures status { IfOk result (λ answer. answer ≡ 2) }
+    ensures no_shelf { IfErr result (λ stop. stop ≢ Stop.Shelf) }
+    ensures sink_failed { IsErrOf result Stop.Sink
+        → Rose (K.faults sink.old) (K.faults sink.new) }
+    ensures becomes { K.becomes sink.old sink.new }
+{
+    let text = refusal(alloc, line, kind)?;
+    say(sink, 2, text.as_bytes())
+}
+
+/// Replays the script that bytes are.
+fn run_bytes<F: Shelf, K: Sink>(
+    alloc: Global,
+    bytes: &[u8],
+    shelf: &mut F,
+    sink: &mut K,
+) -> Result<u8, Stop>
+    ensures told { (files : Files) → F.held shelf.old ≡ Some files
+        → EndsWith (script_answer files (script_of bytes.now)) files
+        (script_commands (script_of bytes.now)) result (K.taken sink.old) (K.taken sink.new) }
+    ensures status { IfOk result
+        (λ answer. (gave_up answer ≡ false) × (nat_eq answer 1 ≡ false)) }
+    ensures shelf_failed { IsErrOf result Stop.Shelf
+        → Rose (F.faults shelf.old) (F.faults shelf.new) }
+    ensures sink_failed { IsErrOf result Stop.Sink
+        → Rose (K.faults sink.old) (K.faults sink.new) }
+    ensures becomes { F.becomes shelf.old shelf.new × K.becomes sink.old sink.new }
+{
+    match parse(alloc, bytes) {
+        Ok(script) => run_commands(alloc, &script, shelf, sink),
+        Err(ScriptFault::Refused { line, kind }) => refuse(alloc, line, kind, sink),
+        Err(ScriptFault::OutOfMemory) => Err(Stop::Memory),
+    }
+}
+
+/// Replays a script.
+fn run_commands<F: Shelf, K: Sink>(
+    alloc: Global,
+    script: &Script,
+    shelf: &mut F,
+    sink: &mut K,
+) -> Result<u8, Stop>
+    ensures told { (files : Files) → F.held shelf.old ≡ Some files
+        → EndsWith (script_answer files (Ok script.now)) files script.now.commands result
+        (K.taken sink.old) (K.taken sink.new) }
+    ensures status { IfOk result (λ answer. answer ≡ 0) }
+    ensures shelf_failed { IsErrOf result Stop.Shelf
+        → Rose (F.faults shelf.old) (F.faults shelf.new) }
+    ensures sink_failed { IsErrOf result Stop.Sink
+        → Rose (K.faults sink.old) (K.faults sink.new) }
+    ensures becomes { F.becomes shelf.old shelf.new × K.becomes sink.old sink.new }
+{
+    replay(alloc, script, shelf, sink)?;
+    Ok(0)
+}
+
+/// Reads the script under a name, once, and replays it.
+fn run_script<F: Shelf, K: Sink>(
+    alloc: Global,
+    name: &str,
+    shelf: &mut F,
+    sink: &mut K,
+) -> Result<u8, Stop>
+    ensures told { (files : Files) → F.held shelf.old ≡ Some files
+        → EndsWith (file_answer files (file_of files name.now)) files
+        (file_commands (file_of files name.now)) result (K.taken sink.old) (K.taken sink.new) }
+    ensures status { IfOk result
+        (λ answer. (gave_up answer ≡ false) × (nat_eq answer 1 ≡ false)) }
+    ensures shelf_failed { IsErrOf result Stop.Shelf
+        → Rose (F.faults shelf.old) (F.faults shelf.new) }
+    ensures sink_failed { IsErrOf result Stop.Sink
+        → Rose (K.faults sink.old) (K.faults sink.new) }
+    ensures becomes { F.becomes shelf.old shelf.new × K.becomes sink.old sink.new }
+{
+    match shelf.read(alloc, name) {
+        Ok(Some(bytes)) => run_bytes(alloc, bytes.as_slice(), shelf, sink),
+        Ok(None) => say(sink, 6, b"no such file\n"),
+        Err(ShelfFault::TooLong) => say(sink, 7, b"file too long\n"),
+        Err(ShelfFault::Failed) => Err(Stop::Shelf),
+        Err(ShelfFault::OutOfMemory) => Err(Stop::Memory),
+    }
+}
+
+/// Answers the words after the program's name: the status with which the program ends, or why it
+/// gave up.
+pub fn respond<F: Shelf, K: Sink>(
+    alloc: Global,
+    words: &Vec<String>,
+    shelf: &mut F,
+    sink: &mut K,
+) -> Result<u8, Stop>
+    ensures told { (files : Files) → F.held shelf.old ≡ Some files
+        → Ends files (words_in words.now.items) result (K.taken sink.old) (K.taken sink.new) }
+    ensures status { IfOk result (λ answer. gave_up answer ≡ false) }
+    ensures usage { IfOk result
+        (λ answer. nat_eq answer 1 ≡ is_none (form_of (words_in words.now.items))) }
+    ensures shelf_failed { IsErrOf result Stop.Shelf
+        → Rose (F.faults shelf.old) (F.faults shelf.new) }
+    ensures sink_failed { IsErrOf result Stop.Sink
+        → Rose (K.faults sink.old) (K.faults sink.new) }
+    ensures becomes { F.becomes shelf.old shelf.new × K.becomes sink.old sink.new }
+{
+    match script_named(words) {
+        Some(name) => run_script(alloc, name, shelf, sink),
+        None => say(
+            sink,
+            1,
+            b"usage: run SCRIPT, check SCRIPT, selftest N, disasm IMAGE\n",
+        ),
+    }
+}

@@ -1,0 +1,414 @@
+use crate::top::top;
+use fw_shelf::{MemShelf, MemSink};
+use fw_types::OutOfMemory;
+use std::alloc::{AllocError, Global};
+use std::test::Fail;
+
+/// The smallest driver: MOVIqw R7, 0 and RET.
+const SMALLEST: &[u8] = b"\x77\x37\x00\x00\x04\x00";
+
+/// What `run s` writes where the script loads the smallest driver.
+const SMALLEST_REPORT: &str =
+    "> load a.efi\n1 0 entry 3 0 0 SUCCESS\nimage 1 handle 3\n= SUCCESS 82\n";
+
+/// Puts bytes at a place.
+fn put(bytes: &mut Vec<u8>, at: usize, field: &[u8]) {
+    for (slot, byte) in bytes.iter_mut().skip(at).zip(field) {
+        *slot = *byte;
+    }
+}
+
+/// The image file of some code, entered at its first byte: headers of 512 bytes, and one section
+/// with the code (PE/COFF: File Headers, Optional Header, Section Table).
+fn image(alloc: Global, code: &[u8]) -> Result<Vec<u8>, AllocError> {
+    let size = code.len().min(0xff_fe00);
+    let room = size.div_ceil(512) * 512;
+    let mut file = vec![in alloc; 0u8; 512 + room]?;
+    put(&mut file, 0x00, b"MZ");
+    put(&mut file, 0x3c, &[0x40]);
+    put(&mut file, 0x40, b"PE");
+    put(&mut file, 0x44, &[0xbc, 0x0e, 1]);
+    put(&mut file, 0x54, &[160, 0, 0x0e]);
+    put(&mut file, 0x58, &[0x0b, 0x02]);
+    put(&mut file, 0x68, &[0x00, 0x02]);
+    put(&mut file, 0x79, &[0x02, 0, 0, 0, 0x02]);
+    put(&mut file, 0x90, &(512 + room as u32).to_le_bytes());
+    put(&mut file, 0x95, &[0x02]);
+    put(&mut file, 0x9c, &[11]);
+    put(&mut file, 0xc4, &[6]);
+    put(&mut file, 0xf8, b".text");
+    put(&mut file, 0x100, &(size as u32).to_le_bytes());
+    put(&mut file, 0x105, &[0x02]);
+    put(&mut file, 0x108, &(room as u32).to_le_bytes());
+    put(&mut file, 0x10d, &[0x02]);
+    put(&mut file, 512, code);
+    Ok(file)
+}
+
+/// A shelf with a script `s` and the images `a.efi` and `b.efi` of some code.
+fn shelf_of(
+    alloc: Global,
+    script: &[u8],
+    a: &[u8],
+    b: &[u8],
+    failing: &[u64],
+) -> Result<MemShelf, AllocError> {
+    let script = (
+        String::from_str(alloc, "s")?,
+        Vec::from_slice(alloc, script)?,
+    );
+    let a = (String::from_str(alloc, "a.efi")?, image(alloc, a)?);
+    let b = (String::from_str(alloc, "b.efi")?, image(alloc, b)?);
+    let files = vec![in alloc; script, a, b]?;
+    Ok(MemShelf::new(files, Vec::from_slice(alloc, failing)?))
+}
+
+/// The words `run` and a name.
+fn run_words(alloc: Global, name: &str) -> Result<Vec<String>, AllocError> {
+    let run = String::from_str(alloc, "run")?;
+    let name = String::from_str(alloc, name)?;
+    Ok(vec![in alloc; run, name]?)
+}
+
+/// Replays a script over the images of some code, into a sink with room for all.
+fn replayed(
+    alloc: Global,
+    script: &[u8],
+    a: &[u8],
+    b: &[u8],
+) -> Result<(u8, MemSink), OutOfMemory> {
+    let mut shelf = shelf_of(alloc, script, a, b, &[])?;
+    let mut sink = MemSink::new(alloc, 1_000_000, 1_000_000, Vec::new(alloc))?;
+    let words = run_words(alloc, "s")?;
+    Ok((top(alloc, &words, &mut shelf, &mut sink), sink))
+}
+
+#[test]
+fn loads_are_replayed(rt: HostRuntime) -> Result<(), Fail> {
+    // A script, the code of a.efi and of b.efi, and the report.
+    let cases: [(&str, &[u8], &[u8], &str); 9] = [
+        ("load a.efi", SMALLEST, b"\x04\x00", SMALLEST_REPORT),
+        ("", SMALLEST, SMALLEST, ""),
+        (
+            "load none.efi\n",
+            SMALLEST,
+            SMALLEST,
+            "> load none.efi\n= NOT_FOUND 0\n",
+        ),
+        // The script is no image.
+        (
+            "load s\n",
+            SMALLEST,
+            SMALLEST,
+            "> load s\nimage 1 refused NotBuilt\n= UNSUPPORTED 0\n",
+        ),
+        // MOVIqw R7, 0 alone runs into zeros, which are BREAK 0.
+        (
+            "load a.efi\n",
+            b"\x77\x37\x00\x00",
+            SMALLEST,
+            "> load a.efi\n1 0 entry 3 0 0 trap:NotBuilt\nimage 1 ABORTED\n= ABORTED 82\n",
+        ),
+        // A call of Stall.
+        (
+            "load a.efi\n",
+            b"\x60\x84\x18\x00\x60\xC4\x60\x00\x35\x05\x83\x2C\xF8\x00\x00\x00\x36\x05\x04\x00",
+            SMALLEST,
+            "> load a.efi\n1 0 entry 3 0 0 trap:NotBuilt\nimage 1 ABORTED\n= ABORTED 81\n",
+        ),
+        // A warning is a success; an error with a name, and one without.
+        (
+            "load a.efi\n",
+            b"\x77\x37\x05\x00\x04\x00",
+            SMALLEST,
+            "> load a.efi\n1 0 entry 3 0 0 0x0000000000000005\nimage 1 handle 3\n= SUCCESS 82\n",
+        ),
+        (
+            "load a.efi\nload b.efi\n",
+            b"\xF7\x37\x0E\x00\x00\x00\x00\x00\x00\x80\x04\x00",
+            b"\xF7\x37\x63\x00\x00\x00\x00\x00\x00\x80\x04\x00",
+            "> load a.efi\n1 0 entry 3 0 0 NOT_FOUND\nimage 1 NOT_FOUND\n= NOT_FOUND 82\n> load b.efi\n1 0 entry 3 0 0 0x8000000000000063\nimage 1 0x8000000000000063\n= 0x8000000000000063 82\n",
+        ),
+        // The number of a handle whose entry failed is used again.
+        (
+            "load a.efi\nload b.efi\nload a.efi\n",
+            SMALLEST,
+            b"\x00\x00",
+            "> load a.efi\n1 0 entry 3 0 0 SUCCESS\nimage 1 handle 3\n= SUCCESS 82\n> load b.efi\n1 0 entry 4 0 0 trap:NotBuilt\nimage 1 ABORTED\n= ABORTED 81\n> load a.efi\n1 0 entry 4 0 0 SUCCESS\nimage 1 handle 4\n= SUCCESS 82\n",
+        ),
+    ];
+    for (script, a, b, report) in cases {
+        let (status, sink) = replayed(rt.alloc(), script.as_bytes(), a, b)?;
+        assert_eq!(rt; status, 0, "at {script}");
+        assert_eq!(rt; sink.taken(), report.as_bytes(), "at {script}");
+    }
+    Ok(())
+}
+
+#[test]
+fn a_narrow_move_keeps_its_low_bytes(rt: HostRuntime) -> Result<(), Fail> {
+    // MOVI to R7 with an immediate of 2, 4 and 8 bytes, of which 1, 2, 4 or 8 are moved; and the
+    // value of the entry.
+    let cases: [(&[u8], &str); 8] = [
+        (b"\x77\x07\x34\x92\x04\x00", "0x0000000000000034"),
+        (b"\x77\x17\x34\x92\x04\x00", "0x0000000000009234"),
+        (b"\x77\x27\x34\x92\x04\x00", "0x00000000ffff9234"),
+        (b"\x77\x37\x34\x92\x04\x00", "0xffffffffffff9234"),
+        (b"\xB7\x37\x78\x56\x34\x92\x04\x00", "0xffffffff92345678"),
+        (b"\xB7\x37\x78\x56\x34\x12\x04\x00", "0x0000000012345678"),
+        (
+            b"\xF7\x37\xF0\xDE\xBC\x9A\x78\x56\x34\x12\x04\x00",
+            "0x123456789abcdef0",
+        ),
+        (
+            b"\xF7\x27\xF0\xDE\xBC\x9A\x78\x56\x34\x12\x04\x00",
+            "0x000000009abcdef0",
+        ),
+    ];
+    for (code, value) in cases {
+        let (_, sink) = replayed(rt.alloc(), b"load a.efi", code, SMALLEST)?;
+        let event = format!(in rt.alloc(); "1 0 entry 3 0 0 {value}\n")?;
+        assert!(rt; sink.taken().len() > 13 + event.len());
+        assert_eq!(rt;
+            &sink.taken()[13..13 + event.len()],
+            event.as_bytes(),
+            "at {value}"
+        );
+    }
+    Ok(())
+}
+
+#[test]
+fn scripts_are_read_by_lines(rt: HostRuntime) -> Result<(), Fail> {
+    // A script, and the line that tells where and why it is refused, or none.
+    let cases: [(&str, &str); 14] = [
+        ("\n# a comment\n  \t \n\tload  a.efi # another\r\n", ""),
+        ("load a.efi#comment", ""),
+        ("load a.efi\r", "script 1 NotAscii\n"),
+        ("load a.efi\r\r\n", "script 1 NotAscii\n"),
+        ("connect", "script 1 NotBuilt\n"),
+        ("load", "script 1 NotBuilt\n"),
+        ("load a.efi b.efi", "script 1 NotBuilt\n"),
+        ("LOAD a.efi", "script 1 NotBuilt\n"),
+        ("load a.efi\n\nfly\nload\n", "script 3 NotBuilt\n"),
+        ("load a.efi # \u{e9}", "script 1 NotAscii\n"),
+        ("load a\u{7f}", "script 1 NotAscii\n"),
+        ("fly \u{7f}\n", "script 1 NotAscii\n"),
+        ("#\n#\nload\tb.efi\n#\u{0}\n", "script 4 NotAscii\n"),
+        ("\r\n\r\n", ""),
+    ];
+    for (script, refusal) in cases {
+        let (status, sink) = replayed(rt.alloc(), script.as_bytes(), SMALLEST, SMALLEST)?;
+        if refusal.is_empty() {
+            assert_eq!(rt; status, 0, "at {script}");
+        } else {
+            assert_eq!(rt; status, 2, "at {script}");
+            assert_eq!(rt; sink.taken(), refusal.as_bytes(), "at {script}");
+        }
+    }
+    Ok(())
+}
+
+/// A script of so many bytes of one kind between two texts.
+fn stretched(
+    alloc: Global,
+    front: &str,
+    byte: u8,
+    count: usize,
+    back: &str,
+) -> Result<Vec<u8>, AllocError> {
+    let mut script = Vec::from_slice(alloc, front.as_bytes())?;
+    for _ in 0..count {
+        script.push(byte)?;
+    }
+    script.extend_from_slice(back.as_bytes())?;
+    Ok(script)
+}
+
+#[test]
+fn lines_names_and_their_number_have_limits(rt: HostRuntime) -> Result<(), Fail> {
+    // What stands before, a byte and how often it stands, what stands behind, and the refusal.
+    let cases: [(&str, u8, usize, &str, &str); 10] = [
+        ("#", b'x', 1023, "", ""),
+        ("#", b'x', 1024, "", "script 1 TooLong\n"),
+        ("#", b'x', 1023, "\r\n", ""),
+        ("load ", b'n', 255, "", ""),
+        ("load ", b'n', 256, "", "script 1 TooLong\n"),
+        ("load ", b'n', 256, " b \u{7f}", "script 1 TooLong\n"),
+        ("fly ", b'n', 256, "", "script 1 NotBuilt\n"),
+        ("", b'\n', 99_999, "load a.efi\n", ""),
+        (
+            "",
+            b'\n',
+            100_000,
+            "load a.efi\n",
+            "script 100001 TooLong\n",
+        ),
+        ("", b'\n', 100_001, "", "script 100001 TooLong\n"),
+    ];
+    for (front, byte, count, back, refusal) in cases {
+        let script = stretched(rt.alloc(), front, byte, count, back)?;
+        let (status, sink) = replayed(rt.alloc(), script.as_slice(), SMALLEST, SMALLEST)?;
+        if refusal.is_empty() {
+            assert_eq!(rt; status, 0, "at {front} and {count}");
+        } else {
+            assert_eq!(rt; status, 2, "at {front} and {count}");
+            assert_eq!(rt; sink.taken(), refusal.as_bytes(), "at {front} and {count}");
+        }
+    }
+    Ok(())
+}
+
+/// The same piece so many times.
+fn repeated(alloc: Global, piece: &[u8], count: usize) -> Result<Vec<u8>, AllocError> {
+    let mut bytes = Vec::new(alloc);
+    for _ in 0..count {
+        bytes.extend_from_slice(piece)?;
+    }
+    Ok(bytes)
+}
+
+#[test]
+fn runs_end_at_the_image_and_at_the_budget(rt: HostRuntime) -> Result<(), Fail> {
+    let alloc = rt.alloc();
+    // How many MOVIqw R7, 0 stand before a RET, or without one, and the report.
+    let cases: [(usize, &[u8], &str); 3] = [
+        (
+            128,
+            b"",
+            "> load a.efi\n1 0 entry 3 0 0 trap:Fetch\nimage 1 ABORTED\n= ABORTED 209\n",
+        ),
+        (
+            1_048_512,
+            b"\x04\x00",
+            "> load a.efi\n1 0 entry 3 0 0 trap:Budget\nimage 1 ABORTED\n= ABORTED 1114120\n",
+        ),
+        (
+            1_048_511,
+            b"\x04\x00",
+            "> load a.efi\n1 0 entry 3 0 0 SUCCESS\nimage 1 handle 3\n= SUCCESS 1114120\n",
+        ),
+    ];
+    for (count, end, report) in cases {
+        let mut code = repeated(alloc, b"\x77\x37\x00\x00", count)?;
+        code.extend_from_slice(end)?;
+        let (status, sink) = replayed(alloc, b"load a.efi", code.as_slice(), SMALLEST)?;
+        assert_eq!(rt; status, 0);
+        assert_eq!(rt; sink.taken(), report.as_bytes(), "at {count}");
+    }
+    Ok(())
+}
+
+/// Whether a text ends so.
+fn ends_with(text: &[u8], end: &str) -> bool {
+    text.ends_with(end.as_bytes())
+}
+
+#[test]
+fn images_have_limits(rt: HostRuntime) -> Result<(), Fail> {
+    let alloc = rt.alloc();
+    let script = repeated(alloc, b"load a.efi\n", 4095)?;
+    let (status, sink) = replayed(alloc, script.as_slice(), SMALLEST, SMALLEST)?;
+    assert_eq!(rt; status, 0);
+    assert!(rt;
+        ends_with(
+            sink.taken(),
+            "1 0 entry 4096 0 0 SUCCESS\nimage 1 handle 4096\n= SUCCESS 82\n> load a.efi\nimage 1 OUT_OF_RESOURCES\n= OUT_OF_RESOURCES 16\n"
+        )
+    );
+    // An image of 16 MiB: four of them fill the 64 MiB that all images may have.
+    let mut code = repeated(alloc, SMALLEST, 1)?;
+    code.resize(16_776_704, 0)?;
+    let script = repeated(alloc, b"load a.efi\n", 5)?;
+    let (status, sink) = replayed(alloc, script.as_slice(), code.as_slice(), SMALLEST)?;
+    assert_eq!(rt; status, 0);
+    assert!(rt;
+        ends_with(
+            sink.taken(),
+            "1 0 entry 6 0 0 SUCCESS\nimage 1 handle 6\n= SUCCESS 262210\n> load a.efi\nimage 1 OUT_OF_RESOURCES\n= OUT_OF_RESOURCES 262144\n"
+        )
+    );
+    Ok(())
+}
+
+/// What `top` answers and writes for words, over a script of some bytes.
+fn answered(alloc: Global, texts: &[&str], script: &[u8]) -> Result<(u8, MemSink), OutOfMemory> {
+    let mut shelf = shelf_of(alloc, script, SMALLEST, SMALLEST, &[])?;
+    let mut sink = MemSink::new(alloc, 100, 100, Vec::new(alloc))?;
+    let mut words = Vec::new(alloc);
+    for text in texts {
+        words.push(String::from_str(alloc, text)?)?;
+    }
+    let status = top(alloc, &words, &mut shelf, &mut sink);
+    Ok((status, sink))
+}
+
+#[test]
+fn words_are_answered(rt: HostRuntime) -> Result<(), Fail> {
+    let usage = "usage: run SCRIPT, check SCRIPT, selftest N, disasm IMAGE\n";
+    // The words, and the status with its text.
+    let cases: [(&[&str], u8, &str); 6] = [
+        (&[], 1, usage),
+        (&["run"], 1, usage),
+        (&["run", "s", "s"], 1, usage),
+        (&["Run", "s"], 1, usage),
+        (&["check", "s"], 1, usage),
+        (&["run", "x"], 6, "no such file\n"),
+    ];
+    for (texts, want, line) in cases {
+        let (status, sink) = answered(rt.alloc(), texts, b"")?;
+        assert_eq!(rt; status, want, "at {line}");
+        assert_eq!(rt; sink.taken(), line.as_bytes());
+    }
+    Ok(())
+}
+
+#[test]
+fn a_script_over_16_mib_is_too_long(rt: HostRuntime) -> Result<(), Fail> {
+    let alloc = rt.alloc();
+    let script: Vec<u8> = vec![in alloc; b'\n'; 16_777_217]?;
+    let (status, sink) = answered(alloc, &["run", "s"], script.as_slice())?;
+    assert_eq!(rt; status, 7);
+    assert_eq!(rt; sink.taken(), b"file too long\n".as_slice());
+    Ok(())
+}
+
+#[test]
+fn a_failing_sink_has_taken_a_front(rt: HostRuntime) -> Result<(), Fail> {
+    let alloc = rt.alloc();
+    let words = run_words(alloc, "s")?;
+    for write in 1..69u64 {
+        let mut shelf = shelf_of(alloc, b"load a.efi", SMALLEST, SMALLEST, &[])?;
+        let mut sink = MemSink::new(alloc, 100, 1, Vec::from_slice(alloc, &[write])?)?;
+        let status = top(alloc, &words, &mut shelf, &mut sink);
+        let taken = write as usize - 1;
+        assert!(rt; taken <= SMALLEST_REPORT.len());
+        assert_eq!(rt; status, if write < 68 { 4 } else { 0 }, "at {write}");
+        assert_eq!(rt; sink.taken(), &SMALLEST_REPORT.as_bytes()[..taken]);
+    }
+    let mut shelf = shelf_of(alloc, b"load a.efi", SMALLEST, SMALLEST, &[])?;
+    let mut sink = MemSink::new(alloc, 100, 5, Vec::from_slice(alloc, &[2])?)?;
+    assert_eq!(rt; top(alloc, &words, &mut shelf, &mut sink), 4);
+    assert_eq!(rt; sink.taken(), b"> loa".as_slice());
+    Ok(())
+}
+
+#[test]
+fn a_failing_shelf_cuts_before_a_load(rt: HostRuntime) -> Result<(), Fail> {
+    let alloc = rt.alloc();
+    let words = run_words(alloc, "s")?;
+    // The read that fails, and how many bytes were written by then: whole texts of 67 bytes.
+    let cases: [(u64, usize); 5] = [(1, 0), (2, 0), (3, 67), (4, 134), (5, 201)];
+    for (read, taken) in cases {
+        let script = b"load a.efi\nload a.efi\nload b.efi";
+        let mut shelf = shelf_of(alloc, script, SMALLEST, SMALLEST, &[read])?;
+        let mut sink = MemSink::new(alloc, 1000, 1000, Vec::new(alloc))?;
+        let status = top(alloc, &words, &mut shelf, &mut sink);
+        assert_eq!(rt; status, if read < 5 { 3 } else { 0 }, "at {read}");
+        assert_eq!(rt; sink.taken().len(), taken, "at {read}");
+        if taken == 67 {
+            assert_eq!(rt; sink.taken(), SMALLEST_REPORT.as_bytes());
+        }
+    }
+    Ok(())
+}
