@@ -1,4 +1,3 @@
 pub mod IndexLemmas
 pub mod KeptBits
-pub mod LittleEndian
 pub mod SpellingLemmas

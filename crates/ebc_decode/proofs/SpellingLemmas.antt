@@ -15,7 +15,7 @@ use Rattle.ebc_decode.specs.declared.instr.Instr.{Instr}
 use Rattle.ebc_decode.specs.declared.instr.DecodeRefusal.{DecodeRefusal}
 use Rattle.ebc_decode.specs.declared.instr.DecodeRefusal.TheVariants.{Short}
 use Rattle.ebc_decode.proofs.KeptBits.{kept_form}
-use Rattle.ebc_decode.proofs.LittleEndian.{little_bytes-little_number}
+use Rattle.fw_types.proofs.LittleEndian.{little_bytes-little_number}
 
 not-short : (m n : ℕ) → n ≤ m → nat_lt m n ≡ false
 not-short m n h = grind (arith, nat_tests)

@@ -1,13 +1,25 @@
 use crate::status::Status;
 
-/// Why a driver call was ended before it came to its exit address.
+/// Why a driver call was ended before it came to its exit address. UEFI 2.8, chapter 22 'EFI Byte
+/// Code Virtual Machine', speaks of exceptions; these causes are this project's own.
 #[derive(Clone, Copy, Debug, PartialEq, Eq)]
 pub enum Cause {
+    /// The bytes at the instruction pointer are no instruction.
+    Illegal,
     /// No whole instruction stands at the instruction pointer.
     Fetch,
+    /// Memory was read where no one segment has all the bytes, or written where none has them or
+    /// where the one that has them is not writable.
+    Memory,
+    /// A jump, a call or a return went to an odd address.
+    Align,
+    /// A number was divided by 0.
+    Divide,
+    /// A BREAK has a code that means nothing here.
+    Break,
     /// A price was more than the units that were left.
     Budget,
-    /// The instruction is one that this machine does not have yet.
+    /// The instruction asks for a call that this machine does not have yet.
     NotBuilt,
 }
 

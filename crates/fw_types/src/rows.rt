@@ -1,4 +1,4 @@
-ghost use Rattle.std.specs.Prelude.{◌≡◌, List};
+ghost use Rattle.std.specs.Prelude.{◌≡◌, ◌≤◌, ◌+◌, ◌++◌, List, length, take, drop};
 ghost use Rattle.std.specs.Cmp.Lexicographic.{pointwise, lists_per};
 
 use std::marker::Model;
@@ -38,6 +38,17 @@ impl<T> Rows<T> {
         ensures { result.now ≡ self.now }
     {
         self.items.as_slice()
+    }
+
+    /// Copies values over those that stand from a place on. Takes no memory.
+    pub fn replace(&mut self, at: usize, values: &[T])
+    where
+        T: Copy,
+        requires { at + length values.now ≤ length self.old }
+        ensures { self.new ≡ take at self.old ++ values.now ++ drop (at + length values.now) self.old }
+    {
+        let items = self.items.as_mut_slice();
+        items[at..at + values.len()].copy_from_slice(values);
     }
 
     /// The vector of the values, in order. Takes no memory.

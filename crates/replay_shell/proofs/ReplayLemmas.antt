@@ -1,13 +1,12 @@
 -- How a replay goes on by a command.
-use Rattle.std.proofs.Common.{inr, ◌≡◌, ℕ, zero, suc, ◌+◌, ◌<◌, ◌≤◌, Bool, true, false, List, [], ◌∷◌, ◌++◌, length, take, drop, refl, sym, ap, ◌∙◌, arith, append_assoc, length-append, drop-cons, get_or, add-one}
-use Rattle.std.specs.Prelude.{Option, Some, None, Result, Ok, Err, slice_get}
+use Rattle.std.proofs.Common.{inr, ◌≡◌, ℕ, zero, suc, ◌+◌, ◌<◌, ◌≤◌, true, List, [], ◌∷◌, ◌++◌, length, take, drop, refl, sym, ap, ◌∙◌, arith, append_assoc, length-append, get_or, add-one}
+use Rattle.std.specs.Prelude.{Option, Some, None, Err, slice_get}
 use Rattle.std.specs.List.{concat}
-use Rattle.std.specs.Option.{option_map_or}
 use Rattle.std.proofs.lemmas.List.{append-nil}
 use Rattle.std.proofs.lemmas.Grind.{common_steps}
 use Rattle.fw_types.specs.declared.command.Command.{Command}
 use Rattle.fw_shelf.specs.Shelf.{Files}
-use Rattle.fw_shelf.specs.Sink.{with_bytes, TakesPrefix}
+use Rattle.fw_shelf.specs.Sink.{with_bytes}
 use Rattle.replay_shell.specs.declared.machine.Machine.{Machine}
 use Rattle.replay_shell.specs.DriverModel.{booted, exec, texts}
 use Rattle.replay_shell.specs.Headline.{EndsWith, answer, reads_at}

@@ -1,5 +1,5 @@
 -- What the words of a text line are, and how a script goes on behind its first line.
-use Rattle.std.proofs.Common.{◌≡◌, ℕ, zero, suc, ◌+◌, ◌<◌, ◌≤◌, List, [], ◌∷◌, ◌++◌, Bool, true, false, ◌&&◌, ◌||◌, cond, length, take, drop, nat_eq, nat_lt, refl, sym, ap, ◌∙◌, arith, lit<, append_assoc}
+use Rattle.std.proofs.Common.{◌≡◌, ℕ, zero, suc, ◌+◌, ◌<◌, ◌≤◌, List, [], ◌∷◌, ◌++◌, Bool, true, false, ◌&&◌, ◌||◌, cond, length, take, nat_eq, nat_lt, refl, sym, ap, ◌∙◌, arith, lit<, append_assoc}
 use Rattle.std.specs.Prelude.{Option, Some, None, Ok, Err, Result, filter, option_map}
 use Rattle.std.specs.Option.{option_or, option_to_list}
 use Rattle.std.proofs.lemmas.List.{append-nil}

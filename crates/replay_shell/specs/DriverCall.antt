@@ -1,5 +1,5 @@
 -- A driver call, in six rules: UEFI 2.8, 4.1 and 10.1. So far only an image's entry is called.
-use Rattle.std.specs.Prelude.{ℕ, ◌+◌, ◌-◌, ◌^◌, List, Bool, true, false, min, nat_le, nat_lt, length, not, if◌then◌else◌}
+use Rattle.std.specs.Prelude.{ℕ, ◌+◌, ◌-◌, ◌^◌, Bool, false, min, nat_le, nat_lt, length, not, if◌then◌else◌}
 use Rattle.fw_types.specs.declared.status.Status.{Status}
 use Rattle.fw_types.specs.declared.event.Cause.TheVariants.{Budget}
 use Rattle.fw_types.specs.declared.event.EventKind.TheVariants.{Entry}
@@ -8,7 +8,7 @@ use Rattle.fw_types.specs.declared.event.Outcome.TheVariants.{Value, Trapped}
 use Rattle.fw_types.specs.declared.event.Event.{Event}
 use Rattle.replay_shell.specs.declared.image.Image.{Image}
 use Rattle.replay_shell.specs.World.{State, Soft, put_back, spend, with_event}
-use Rattle.replay_shell.specs.GuestRun.{frame, run}
+use Rattle.replay_shell.specs.GuestRun.{Ran, entry_ran, with_run}
 
 -- the most units that one driver call may spend
 abbrev pub call_budget : ℕ
@@ -43,20 +43,25 @@ entry_event image outcome w = record {
   result = outcome;
 }
 
--- the sixth rule: what did not commit leaves the soft part as it was
-abbrev pub kept_or_undone : Soft → Outcome → State → State
-kept_or_undone before outcome w = if commits outcome then w else put_back before w
+-- what a run leaves: its units are spent, its event is there, and its memory is that of the drivers
+abbrev pub left_by : Image → State → Ran → State
+left_by image w ended =
+    let paid : State = spend (allowance w - ended.units) w in
+    with_event (entry_event image ended.outcome w) (put_back (with_run ended w.soft) paid)
 
--- a call that ended so, with so much of its allowance left
-abbrev pub ended : Image → State → Outcome × ℕ → Outcome × State
-ended image w ran =
-    let w' : State = with_event (entry_event image ran.0 w) (spend (allowance w - ran.1) w) in
-    (ran.0, kept_or_undone w.soft ran.0 w')
-
--- The first rule: with less than its price the call traps with no event and spends nothing. Else it
--- pays its price out of its allowance, its event begins, and the image's code runs from the entry
--- point on a stack of its own until it is done or traps.
-abbrev pub entry_called : Image → State → Outcome × State
-entry_called image w =
+-- the first five rules: with less than its price the call traps with no event and spends nothing;
+-- else it pays its price out of its allowance, its event begins, and the image's code runs from the
+-- entry point until it is done or traps
+abbrev pub entry_made : Image → State → Outcome × State
+entry_made image w =
     if nat_lt (allowance w) call_price then (Trapped Budget, w)
-    else ended image w (run (allowance w - call_price) image (frame image))
+    else
+    let ended : Ran = entry_ran (allowance w - call_price) image w.soft.memory in
+    (ended.outcome, left_by image w ended)
+
+-- the sixth rule: what did not commit leaves the soft part as it was
+abbrev pub kept_or_undone : Soft → Outcome × State → Outcome × State
+kept_or_undone before (outcome, w) = (outcome, if commits outcome then w else put_back before w)
+
+abbrev pub entry_called : Image → State → Outcome × State
+entry_called image w = kept_or_undone w.soft (entry_made image w)

@@ -9,7 +9,7 @@ use Rattle.fw_shelf.specs.Shelf.{Files, file_of}
 use Rattle.fw_shelf.specs.declared.shelf.ShelfFault.{ShelfFault}
 use Rattle.replay_shell.specs.declared.machine.Machine.{Machine}
 use Rattle.replay_shell.specs.declared.machine.Ending.{Ending}
-use Rattle.replay_shell.specs.World.{State, begin_command, without_events}
+use Rattle.replay_shell.specs.World.{State, begin_command, first_image, without_events}
 use Rattle.replay_shell.specs.ImageLife.{Load, load_error, loaded, not_found}
 use Rattle.replay_shell.specs.Report.{reply_text}
 
@@ -17,10 +17,10 @@ use Rattle.replay_shell.specs.Report.{reply_text}
 abbrev pub command_budget : ℕ
 command_budget = 4194304
 
--- no image, two handles, and the first address of images
+-- no memory, no image, two handles, and the first address of images
 abbrev pub opening : State
 opening = record {
-  soft = record { images = []; next_handle = 3; next_image = 0x2000000 };
+  soft = record { memory = []; images = []; next_handle = 3; next_image = first_image };
   hard = record { units = 0; events = [] };
 }
 

@@ -1,87 +1,91 @@
 -- A run of guest code: UEFI 2.8, chapter 22 'EFI Byte Code Virtual Machine'.
--- The machine has two instructions so far, RET and a MOVI to a register. R0 changes at RET alone,
--- so the first RET takes the return address of the entry's own frame, which is the exit address.
-use Rattle.std.specs.Prelude.{ℕ, zero, suc, ◌+◌, ◌-◌, ◌/◌, ◌%◌, ◌^◌, List, [], ◌∷◌, Bool, not, ◌&&◌, Result, Ok, Err, bit_and, nat_eq, nat_lt, slice_index, slice_set, if◌then◌else◌}
-use Rattle.fw_types.specs.declared.status.Status.{Status}
-use Rattle.fw_types.specs.declared.event.Cause.{Cause}
-use Rattle.fw_types.specs.declared.event.Cause.TheVariants.{Fetch, Budget, NotBuilt}
+use Rattle.std.specs.Prelude.{ℕ, zero, suc, ◌+◌, ◌-◌, ◌*◌, List, [], ◌∷◌, ◌++◌, Option, Some, None, nat_eq, replicate, slice_index, if◌then◌else◌}
+use Rattle.byteorder.specs.Endian.{little_bytes}
+use Rattle.fw_types.specs.declared.event.Cause.TheVariants.{Budget, NotBuilt}
 use Rattle.fw_types.specs.declared.event.Outcome.{Outcome}
 use Rattle.fw_types.specs.declared.event.Outcome.TheVariants.{Value, Trapped}
-use Rattle.ebc_decode.specs.Spelling.{decoded}
-use Rattle.ebc_decode.specs.declared.instr.Instr.{Instr}
-use Rattle.ebc_decode.specs.declared.instr.DecodeRefusal.{DecodeRefusal}
-use Rattle.ebc_decode.specs.declared.instr.DecodeRefusal.TheVariants.{Short, Illegal}
-use Rattle.replay_shell.specs.declared.guest_run.Cpu.{Cpu}
-use Rattle.replay_shell.specs.declared.guest_run.StepOut.{StepOut}
-use Rattle.replay_shell.specs.declared.guest_run.StepOut.TheVariants.{Next, Trap}
+use Rattle.guest_memory.specs.declared.segment.Segment.{Segment}
+use Rattle.guest_memory.specs.declared.segment.SegKind.TheVariants as kind
+use Rattle.guest_memory.specs.GuestMemory.{mapped, unmapped}
+use Rattle.ebc_machine.specs.Step.{Stepped, stepped}
+use Rattle.ebc_machine.specs.declared.cpu.Cpu.{Cpu}
+use Rattle.ebc_machine.specs.declared.cpu.StepOut.{StepOut}
+use Rattle.ebc_machine.specs.declared.cpu.StepOut.TheVariants.{Next, Native, MakeThunk, Done, Trap}
+use Rattle.ebc_machine.specs.declared.run.TheConstants.{EXIT}
 use Rattle.replay_shell.specs.declared.image.Image.{Image}
-use Rattle.replay_shell.specs.Fetch.{fetched}
+use Rattle.replay_shell.specs.World.{Soft}
 
--- where a run ends
-abbrev pub exit_address : ℕ
-exit_address = 0x24000
+-- how a run ends, the units that are left, and the memory then
+pub record Ran : Type 0 where
+  pub outcome : Outcome
+  pub units : ℕ
+  pub segments : List Segment
 
--- R0 of an entry's frame: 144 bytes below the end of the stack of level 1
-abbrev pub entry_stack : ℕ
-entry_stack = 0x820000 - 144
-
--- Instructions.
-
--- an immediate of so many bits, its sign carried on to 64 bits
-abbrev pub sign_extended : ℕ → ℕ → ℕ
-sign_extended bits number = if nat_lt number (2 ^ (bits - 1)) then number else (number + (2 ^ 64 - 2 ^ bits)) % 2 ^ 64
-
--- the bits of MOVI's immediate, by the modifiers
-abbrev pub immediate_bits : ℕ → ℕ
-immediate_bits mods = if nat_eq mods 1 then 16 else if nat_eq mods 2 then 32 else 64
-
--- the bits that MOVI moves, by bits 5:4 of the second byte
-abbrev pub moved_bits : ℕ → ℕ
-moved_bits width = if nat_eq width 0 then 8 else if nat_eq width 1 then 16 else if nat_eq width 2 then 32 else 64
-
--- a MOVI without an index to a register other than R0
-abbrev pub moves_to_register : Instr → Bool
-moves_to_register instr = nat_eq instr.op 0x37 && nat_eq (bit_and instr.operands 0x48) 0 && not (nat_eq (bit_and instr.operands 0x07) 0)
-
--- what it moves: a narrow move clears the rest of the register
-abbrev pub moved_value : Instr → ℕ
-moved_value instr = sign_extended (immediate_bits instr.mods) instr.second % 2 ^ moved_bits (instr.operands / 16 % 4)
-
--- one instruction of a length
-abbrev pub performed : Cpu → Instr → ℕ → StepOut × Cpu
-performed cpu instr size =
-    if nat_eq instr.op 0x04 then (Next, record cpu { ip = exit_address })
-    else if moves_to_register instr then (Next, record cpu { r = slice_set cpu.r (bit_and instr.operands 0x07) (moved_value instr); ip = (cpu.ip + size) % 2 ^ 64 })
-    else (Trap NotBuilt, cpu)
-
-abbrev pub step_by : Cpu → Result (Instr × ℕ) DecodeRefusal → StepOut × Cpu
-step_by cpu (Err Short) = (Trap Fetch, cpu)
-step_by cpu (Err Illegal) = (Trap NotBuilt, cpu)
-step_by cpu (Ok found) = performed cpu found.0 found.1
-
--- one step of a run in an image
-abbrev pub stepped : Cpu → Image → StepOut × Cpu
-stepped cpu image = step_by cpu (decoded (fetched image cpu.ip))
-
--- Runs.
+abbrev pub ran : Outcome → ℕ → List Segment → Ran
+ran outcome units segments = record { outcome = outcome; units = units; segments = segments }
 
 -- the value of a run that is done: R7
 abbrev pub answer : Cpu → Outcome
 answer cpu = Value (record { 0 = slice_index cpu.r 7 })
 
--- what follows a step: only after Next the run goes on
-abbrev pub after_step : (Cpu → Outcome × ℕ) → ℕ → StepOut × Cpu → Outcome × ℕ
-after_step go_on left (Next, cpu) = go_on cpu
-after_step go_on left (Trap cause, cpu) = (Trapped cause, left)
+-- How a step ends a run, if it does: only after Next the run goes on. What calls out of the code is
+-- not built yet.
+abbrev pub ended_by : StepOut → Cpu → Option Outcome
+ended_by Next cpu = None
+ended_by Done cpu = Some (answer cpu)
+ended_by (Native target) cpu = Some (Trapped NotBuilt)
+ended_by (MakeThunk place) cpu = Some (Trapped NotBuilt)
+ended_by (Trap cause) cpu = Some (Trapped cause)
 
--- how a run with so many units ends, and the units that are left: to be done costs nothing, and each
--- instruction costs a unit, one that traps too
-unfoldable pub run : ℕ → Image → Cpu → Outcome × ℕ
-run zero image cpu = if nat_eq cpu.ip exit_address then (answer cpu, 0) else (Trapped Budget, 0)
-run (suc left) image cpu =
-    if nat_eq cpu.ip exit_address then (answer cpu, suc left)
-    else after_step (run left image) left (stepped cpu image)
+abbrev pub unless_ended : Option Outcome → (Cpu → List Segment → Ran) → ℕ → Stepped → Ran
+unless_ended None go_on left s = go_on s.cpu s.segments
+unless_ended (Some outcome) go_on left s = ran outcome left s.segments
 
--- the processor as an entry begins: all registers 0 but R0
+abbrev pub after_step : (Cpu → List Segment → Ran) → ℕ → Stepped → Ran
+after_step go_on left s = unless_ended (ended_by s.out s.cpu) go_on left s
+
+-- a run with so many units: to be done costs nothing, and each instruction costs a unit, one that
+-- traps too
+unfoldable pub run : ℕ → Cpu → List Segment → Ran
+run zero cpu segments = if nat_eq cpu.ip EXIT then ran (answer cpu) 0 segments else ran (Trapped Budget) 0 segments
+run (suc left) cpu segments =
+    if nat_eq cpu.ip EXIT then ran (answer cpu) (suc left) segments
+    else after_step (run left) left (stepped cpu segments)
+
+-- The stack of a call: 64 KiB of zeros at its level's address, with a frame at the end: the exit
+-- address as return address, and sixteen slots for arguments 16 bytes behind it.
+
+abbrev pub stack_base : ℕ
+stack_base = 0x810000
+
+-- how far the frame stands above the stack's beginning
+abbrev pub frame_place : ℕ
+frame_place = 0x10000 - 144
+
+-- the system table, an entry's second argument
+abbrev pub system_table : ℕ
+system_table = 0x10000
+
+unfoldable pub stack_bytes : ℕ → List ℕ
+stack_bytes handle =
+    replicate frame_place 0
+    ++ little_bytes 8 EXIT ++ replicate 8 0
+    ++ little_bytes 8 handle ++ little_bytes 8 system_table ++ replicate (14 * 8) 0
+
+abbrev pub stack_of : Image → Segment
+stack_of image = record { base = stack_base; bytes = stack_bytes image.handle; kind = kind.Stack }
+
+-- the registers as an entry begins: all 0 but R0, which is at the frame
 abbrev pub frame : Image → Cpu
-frame image = record { r = entry_stack ∷ 0 ∷ 0 ∷ 0 ∷ 0 ∷ 0 ∷ 0 ∷ 0 ∷ []; ip = image.entry }
+frame image = record { r = (stack_base + frame_place) ∷ 0 ∷ 0 ∷ 0 ∷ 0 ∷ 0 ∷ 0 ∷ 0 ∷ []; flags = 0; ip = image.entry }
+
+-- a run from an image's entry point, on a stack that is there while it runs
+abbrev pub entry_ran : ℕ → Image → List Segment → Ran
+entry_ran units image segments = run units (frame image) (mapped (stack_of image) segments)
+
+-- the segments that a run leaves, without its stack
+abbrev pub left_segments : Ran → List Segment
+left_segments ended = unmapped ended.segments stack_base
+
+abbrev pub with_run : Ran → Soft → Soft
+with_run ended soft = record soft { memory = left_segments ended }

@@ -1,6 +1,6 @@
 -- What the program answers to its words over the files that a shelf holds: a status and the whole
 -- text that it writes.
-use Rattle.std.specs.Prelude.{◌≡◌, ℕ, ◌<◌, List, [], ◌∷◌, Bool, true, false, ◌||◌, Option, Some, None, Result, Ok, Err, bytes_eq, codes, length, map, nat_eq, slice_get, take, String, string_bytes, ◌⊎◌, if◌then◌else◌}
+use Rattle.std.specs.Prelude.{◌≡◌, ℕ, List, [], ◌∷◌, Bool, true, false, ◌||◌, Option, Some, None, Result, Ok, Err, bytes_eq, codes, map, nat_eq, slice_get, take, String, string_bytes, ◌⊎◌, if◌then◌else◌}
 use Rattle.std.specs.List.{concat}
 use Rattle.std.specs.Option.{option_map_or}
 use Rattle.std.specs.declared.alloc.Global.{Global}

@@ -1,5 +1,5 @@
 -- The load of an image: UEFI 2.8, 7.4 LoadImage and StartImage, as one step.
-use Rattle.std.specs.Prelude.{ℕ, ◌+◌, ◌/◌, List, [], ◌∷◌, Option, Some, None, Result, Ok, Err, nat_lt, if◌then◌else◌}
+use Rattle.std.specs.Prelude.{ℕ, ◌+◌, ◌/◌, List, Option, Some, None, nat_lt, if◌then◌else◌}
 use Rattle.fw_types.specs.Status.{error}
 use Rattle.fw_types.specs.declared.status.Status.{Status}
 use Rattle.fw_types.specs.declared.event.Outcome.{Outcome}
@@ -8,7 +8,6 @@ use Rattle.fw_types.specs.declared.image.PeRefusal.{PeRefusal}
 use Rattle.fw_types.specs.declared.image.PeRefusal.TheVariants as refusal
 use Rattle.fw_types.specs.declared.image.ImageNote.{ImageNote}
 use Rattle.fw_types.specs.declared.image.ImageNote.TheVariants.{Loaded, Failed, Refused}
-use Rattle.fw_shelf.specs.declared.shelf.ShelfFault.{ShelfFault}
 use Rattle.pe_image.specs.ImageRules.{entry_of, refusal_of, size_of}
 use Rattle.pe_image.specs.LaidImage.{laid}
 use Rattle.replay_shell.specs.declared.image.Image.{Image}
@@ -62,15 +61,24 @@ image_of file soft = record {
   handle = soft.next_handle;
   base = soft.next_image;
   entry = soft.next_image + entry_of file;
-  bytes = laid file soft.next_image;
 }
 
+-- the soft part with the image of a file
+abbrev pub with_file : List ℕ → Soft → Soft
+with_file file soft = with_image (image_of file soft) (laid file soft.next_image) soft
+
+-- the status of a load whose entry ended so, where it failed
+abbrev pub failure_of : Outcome → Option Status
+failure_of (Value status) = if is_error status then Some status else None
+failure_of (Trapped cause) = Some aborted
+
+abbrev pub kept_unless : Option Status → Image → Soft → State → Load
+kept_unless None image before w = record { note = Loaded image.handle; status = success; world = w }
+kept_unless (Some status) image before w = failed status (put_back before w)
+
 -- an image whose entry succeeded stays loaded; else the soft part is as before the load
-abbrev pub entered : Image → State → Outcome × State → Load
-entered image before (Value status, w) =
-    if is_error status then failed status (put_back before.soft w)
-    else record { note = Loaded image.handle; status = success; world = w }
-entered image before (Trapped cause, w) = failed aborted (put_back before.soft w)
+abbrev pub entered : Image → Soft → Outcome × State → Load
+entered image before (outcome, w) = kept_unless (failure_of outcome) image before w
 
 -- the image is placed and its entry called, unless a limit is met
 abbrev pub placed : List ℕ → State → Load
@@ -78,7 +86,7 @@ placed file w =
     if is_full_for (size_of file) w.soft then failed out_of_resources w
     else
     let image : Image = image_of file w.soft in
-    entered image w (entry_called image (record w { soft = with_image image w.soft }))
+    entered image w.soft (entry_called image (put_back (with_file file w.soft) w))
 
 abbrev pub loaded_unless : Option PeRefusal → List ℕ → State → Load
 loaded_unless (Some refusal) file w = record { note = Refused refusal; status = refusal_status refusal; world = w }

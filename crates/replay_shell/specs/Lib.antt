@@ -1,7 +1,6 @@
 pub mod ScriptGrammar
 pub mod Report
 pub mod World
-pub mod Fetch
 pub mod GuestRun
 pub mod DriverCall
 pub mod ImageLife

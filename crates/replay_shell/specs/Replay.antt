@@ -2,7 +2,6 @@
 use Rattle.std.specs.Prelude.{◌≡◌, true, List, ℕ, Option, Result, Ok, Err}
 use Rattle.std.specs.List.{concat}
 use Rattle.fw_types.specs.declared.command.Command.{Command}
-use Rattle.fw_types.specs.declared.reply.Reply.{Reply}
 use Rattle.fw_shelf.specs.Shelf.{Files}
 use Rattle.fw_shelf.specs.Sink.{with_bytes, TakesPrefix}
 use Rattle.replay_shell.specs.declared.machine.Machine.{Machine}

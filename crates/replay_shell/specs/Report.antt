@@ -44,7 +44,12 @@ abbrev pub status_word : Status → List ℕ
 status_word status = name_or_value (name_of status) status.0
 
 abbrev pub cause_word : Cause → List ℕ
+cause_word cause.Illegal = codes "Illegal"
 cause_word cause.Fetch = codes "Fetch"
+cause_word cause.Memory = codes "Memory"
+cause_word cause.Align = codes "Align"
+cause_word cause.Divide = codes "Divide"
+cause_word cause.Break = codes "Break"
 cause_word cause.Budget = codes "Budget"
 cause_word cause.NotBuilt = codes "NotBuilt"
 

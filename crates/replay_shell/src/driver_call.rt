@@ -1,8 +1,7 @@
 ghost use Rattle.std.specs.Prelude.{◌≡◌, IfOk, OnOk};
 ghost use Rattle.replay_shell.specs.World.{Spends};
-ghost use Rattle.replay_shell.specs.DriverCall.{allowance, entry_called, entry_event};
+ghost use Rattle.replay_shell.specs.DriverCall.{allowance, entry_event, entry_made};
 
-use crate::guest_run::run_entry;
 use crate::image::Image;
 use crate::world::World;
 use fw_types::{Cause, Event, EventKind, OutOfMemory, Outcome};
@@ -35,18 +34,17 @@ fn event_of(world: &World, image: &Image, outcome: Outcome) -> Event
 }
 
 /// Calls the entry point of an image (UEFI 2.8, 4.1: EFI_IMAGE_ENTRY_POINT), and answers how the
-/// call ended. With less than the price of a call left it traps at once, and no event is made.
+/// call ended. With less than the price of a call left it traps at once, and no event is made. What
+/// the image's code wrote stays: the caller puts the soft part back where the call did not commit.
 pub fn call_entry(world: &mut World, image: &Image) -> Result<Outcome, OutOfMemory>
-    ensures called { IfOk result (λ outcome.
-        entry_called image.now world.old ≡ (outcome, world.new)) }
-    ensures soft { OnOk result (world.new.soft ≡ world.old.soft) }
+    ensures made { IfOk result (λ outcome. entry_made image.now world.old ≡ (outcome, world.new)) }
     ensures spends { OnOk result (Spends world.old world.new) }
 {
     let allowance = allowance_of(world);
     if allowance < CALL_PRICE {
         return Ok(Outcome::Trapped(Cause::Budget));
     }
-    let (outcome, left) = run_entry(image, allowance - CALL_PRICE);
+    let (outcome, left) = world.run_entry(image, allowance - CALL_PRICE)?;
     world.spend(allowance - left);
     let event = event_of(world, image, outcome);
     world.add_event(event)?;

@@ -1,14 +1,13 @@
-ghost use Rattle.std.specs.Prelude.{◌≡◌, None, IfOk, OnOk, false, length};
-ghost use Rattle.fw_types.specs.declared.event.Outcome.TheVariants.{Value};
-ghost use Rattle.pe_image.specs.ImageRules.{size_of};
-ghost use Rattle.replay_shell.specs.World.{Spends, is_full_for, put_back, with_image};
-ghost use Rattle.replay_shell.specs.DriverCall.{entry_called};
-ghost use Rattle.replay_shell.specs.ImageLife.{came_of, entered, image_of, laying_price, loaded, loaded_unless, placed, refusal_status};
+ghost use Rattle.std.specs.Prelude.{◌≡◌, ◌≤◌, None, IfOk, OnOk, false, length};
+ghost use Rattle.replay_shell.specs.World.{Soft, Spends, is_full_for, put_back, with_image};
+ghost use Rattle.replay_shell.specs.DriverCall.{entry_called, kept_or_undone};
+ghost use Rattle.replay_shell.specs.ImageLife.{came_of, entered, failure_of, image_of, laying_price, loaded, loaded_unless, placed, refusal_status};
 
 use crate::driver_call::call_entry;
 use crate::image::Image;
+use crate::soft_part::SoftPart;
 use crate::world::World;
-use fw_types::{ImageNote, OutOfMemory, Outcome, PeRefusal, Rows, Status};
+use fw_types::{ImageNote, OutOfMemory, Outcome, PeRefusal, Status};
 use pe_image::{PeView, check, lay};
 
 /// What came of an image, and the status of its load.
@@ -43,51 +42,59 @@ fn price_of(view: &PeView<'_>) -> u64
 }
 
 /// The image of a file, under the next handle and at the next address.
-fn image_at_next(world: &World, view: &PeView<'_>) -> Result<Image, OutOfMemory>
-    ensures image { IfOk result (λ image. image ≡ image_of view.now world.now.soft) }
-    ensures size { IfOk result (λ image. length image.bytes ≡ size_of view.now) }
+fn image_at_next(world: &World, view: &PeView<'_>) -> Image
+    ensures { result ≡ image_of view.now world.now.soft }
 {
     let base = world.next_image();
-    Ok(Image {
+    Image {
         handle: world.next_handle(),
         base,
         entry: base + u64::from(view.entry()),
-        bytes: Rows::of(lay(world.alloc(), view, base)?),
-    })
+    }
 }
 
-/// Calls the entry of an image, and keeps the image where that succeeds. Nothing looks at the
-/// loaded images while the entry runs, so the image is placed only then.
-fn enter(world: &mut World, image: Image) -> Result<Loading, OutOfMemory>
-    requires room { is_full_for (length image.bytes) world.old.soft ≡ false }
+/// The status of a load whose entry ended so, where it failed.
+fn failure(outcome: Outcome) -> Option<Status>
+    ensures { result ≡ failure_of outcome }
+{
+    match outcome {
+        Outcome::Value(status) if status.is_error() => Some(status),
+        Outcome::Value(_) => None,
+        Outcome::Trapped(_) => Some(Status::ABORTED),
+    }
+}
+
+/// Keeps an image whose entry ended so, or puts the soft part back where it failed.
+fn settle(world: &mut World, before: SoftPart, image: &Image, outcome: Outcome) -> Loading
+    ensures done { (placed : Soft) → entered image.now before (kept_or_undone placed (outcome, world.old))
+        ≡ came_of result world.new }
+    ensures hard { world.new.hard ≡ world.old.hard }
+{
+    match failure(outcome) {
+        None => Loading {
+            note: ImageNote::Loaded(image.handle),
+            status: Status::SUCCESS,
+        },
+        Some(status) => {
+            world.rollback(before);
+            failed(status)
+        }
+    }
+}
+
+/// Places an image and calls its entry; where that fails the soft part is as before.
+fn enter(world: &mut World, image: Image, bytes: Vec<u8>) -> Result<Loading, OutOfMemory>
+    requires some { 1 ≤ length bytes.items }
+    requires room { is_full_for (length bytes.items) world.old.soft ≡ false }
     ensures done { IfOk result (λ loading.
-        entered image world.old (entry_called image (put_back (with_image image world.old.soft) world.old))
+        entered image world.old.soft (entry_called image (put_back (with_image image bytes.items world.old.soft) world.old))
         ≡ came_of loading world.new) }
     ensures spends { OnOk result (Spends world.old world.new) }
 {
-    match call_entry(world, &image)? {
-        Outcome::Trapped(_) => Ok(failed(Status::ABORTED)),
-        Outcome::Value(status) => keep_or_drop(world, image, status),
-    }
-}
-
-/// Keeps an image whose entry answered a status that is no error.
-fn keep_or_drop(world: &mut World, image: Image, status: Status) -> Result<Loading, OutOfMemory>
-    requires room { is_full_for (length image.bytes) world.old.soft ≡ false }
-    ensures done { IfOk result (λ loading.
-        entered image world.old (Value status, put_back (with_image image world.old.soft) world.old)
-        ≡ came_of loading world.new) }
-    ensures spends { OnOk result (world.new.hard ≡ world.old.hard) }
-{
-    if status.is_error() {
-        return Ok(failed(status));
-    }
-    let handle = image.handle;
-    world.add_image(image)?;
-    Ok(Loading {
-        note: ImageNote::Loaded(handle),
-        status: Status::SUCCESS,
-    })
+    let before = world.mark()?;
+    world.add_image(image, bytes)?;
+    let outcome = call_entry(world, &image)?;
+    Ok(settle(world, before, &image, outcome))
 }
 
 /// Places and enters the image of an accepted file, unless a limit is met.
@@ -98,8 +105,9 @@ fn place(world: &mut World, view: &PeView<'_>) -> Result<Loading, OutOfMemory>
     if world.is_full_for(view.size()) {
         return Ok(failed(Status::OUT_OF_RESOURCES));
     }
-    let image = image_at_next(world, view)?;
-    enter(world, image)
+    let image = image_at_next(world, view);
+    let bytes = lay(world.alloc(), view, image.base)?;
+    enter(world, image, bytes)
 }
 
 /// Loads the image that the bytes of a file are (UEFI 2.8, 7.4: LoadImage and StartImage): checks

@@ -12,12 +12,14 @@ mod guest_run;
 mod image;
 mod image_life;
 mod machine;
+mod mapping;
 mod read;
 mod replay;
 mod report;
 mod report_words;
 mod respond;
 mod script;
+mod soft_part;
 #[cfg(test)]
 mod tests;
 mod top;

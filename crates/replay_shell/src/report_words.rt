@@ -48,7 +48,12 @@ pub fn cause_name(cause: Cause) -> &'static str
     ensures { result.now ≡ cause_word cause }
 {
     match cause {
+        Cause::Illegal => "Illegal",
         Cause::Fetch => "Fetch",
+        Cause::Memory => "Memory",
+        Cause::Align => "Align",
+        Cause::Divide => "Divide",
+        Cause::Break => "Break",
         Cause::Budget => "Budget",
         Cause::NotBuilt => "NotBuilt",
     }

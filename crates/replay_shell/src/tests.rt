@@ -86,7 +86,7 @@ fn replayed(
 #[test]
 fn loads_are_replayed(rt: HostRuntime) -> Result<(), Fail> {
     // A script, the code of a.efi and of b.efi, and the report.
-    let cases: [(&str, &[u8], &[u8], &str); 9] = [
+    let cases: [(&str, &[u8], &[u8], &str); 12] = [
         ("load a.efi", SMALLEST, b"\x04\x00", SMALLEST_REPORT),
         ("", SMALLEST, SMALLEST, ""),
         (
@@ -107,14 +107,35 @@ fn loads_are_replayed(rt: HostRuntime) -> Result<(), Fail> {
             "load a.efi\n",
             b"\x77\x37\x00\x00",
             SMALLEST,
-            "> load a.efi\n1 0 entry 3 0 0 trap:NotBuilt\nimage 1 ABORTED\n= ABORTED 82\n",
+            "> load a.efi\n1 0 entry 3 0 0 trap:Break\nimage 1 ABORTED\n= ABORTED 82\n",
         ),
-        // A call of Stall.
+        // ADD64 R1, R2 and a RET; R7 is 0.
+        (
+            "load a.efi\n",
+            b"\x4C\x21\x04\x00",
+            SMALLEST,
+            "> load a.efi\n1 0 entry 3 0 0 SUCCESS\nimage 1 handle 3\n= SUCCESS 82\n",
+        ),
+        // BREAK 5 asks for a thunk.
+        (
+            "load a.efi\n",
+            b"\x00\x05\x04\x00",
+            SMALLEST,
+            "> load a.efi\n1 0 entry 3 0 0 trap:NotBuilt\nimage 1 ABORTED\n= ABORTED 81\n",
+        ),
+        // A jump to itself.
+        (
+            "load a.efi\n",
+            b"\x02\xFF",
+            SMALLEST,
+            "> load a.efi\n1 0 entry 3 0 0 trap:Budget\nimage 1 ABORTED\n= ABORTED 1048592\n",
+        ),
+        // A call of Stall reads the system table, which is not there.
         (
             "load a.efi\n",
             b"\x60\x84\x18\x00\x60\xC4\x60\x00\x35\x05\x83\x2C\xF8\x00\x00\x00\x36\x05\x04\x00",
             SMALLEST,
-            "> load a.efi\n1 0 entry 3 0 0 trap:NotBuilt\nimage 1 ABORTED\n= ABORTED 81\n",
+            "> load a.efi\n1 0 entry 3 0 0 trap:Memory\nimage 1 ABORTED\n= ABORTED 82\n",
         ),
         // A warning is a success; an error with a name, and one without.
         (
@@ -134,13 +155,40 @@ fn loads_are_replayed(rt: HostRuntime) -> Result<(), Fail> {
             "load a.efi\nload b.efi\nload a.efi\n",
             SMALLEST,
             b"\x00\x00",
-            "> load a.efi\n1 0 entry 3 0 0 SUCCESS\nimage 1 handle 3\n= SUCCESS 82\n> load b.efi\n1 0 entry 4 0 0 trap:NotBuilt\nimage 1 ABORTED\n= ABORTED 81\n> load a.efi\n1 0 entry 4 0 0 SUCCESS\nimage 1 handle 4\n= SUCCESS 82\n",
+            "> load a.efi\n1 0 entry 3 0 0 SUCCESS\nimage 1 handle 3\n= SUCCESS 82\n> load b.efi\n1 0 entry 4 0 0 trap:Break\nimage 1 ABORTED\n= ABORTED 81\n> load a.efi\n1 0 entry 4 0 0 SUCCESS\nimage 1 handle 4\n= SUCCESS 82\n",
         ),
     ];
     for (script, a, b, report) in cases {
         let (status, sink) = replayed(rt.alloc(), script.as_bytes(), a, b)?;
         assert_eq!(rt; status, 0, "at {script}");
         assert_eq!(rt; sink.taken(), report.as_bytes(), "at {script}");
+    }
+    Ok(())
+}
+
+/// MOVIqd R1, 0x2000210; MOVqw R7, @R1; RET: the value is what the first image has 16 bytes behind
+/// its entry, where this code has zeros.
+const READER: &[u8] =
+    b"\xB7\x31\x10\x02\x00\x02\x20\x97\x04\x00\x00\x00\x00\x00\x00\x00\x00\x00\x00\x00\x00\x00\x00\x00";
+
+#[test]
+fn what_a_failed_entry_wrote_is_undone(rt: HostRuntime) -> Result<(), Fail> {
+    // MOVIqd R1, 0x2000210; MOVIqw @R1, 5; an error or 0 to R7; RET: the code, and the report.
+    let cases: [(&[u8], &str); 2] = [
+        (
+            b"\xB7\x31\x10\x02\x00\x02\x77\x39\x05\x00\xF7\x37\x0E\x00\x00\x00\x00\x00\x00\x80\x04\x00",
+            "> load a.efi\n1 0 entry 3 0 0 SUCCESS\nimage 1 handle 3\n= SUCCESS 83\n> load b.efi\n1 0 entry 4 0 0 NOT_FOUND\nimage 1 NOT_FOUND\n= NOT_FOUND 84\n> load a.efi\n1 0 entry 4 0 0 SUCCESS\nimage 1 handle 4\n= SUCCESS 83\n",
+        ),
+        (
+            b"\xB7\x31\x10\x02\x00\x02\x77\x39\x05\x00\x77\x37\x00\x00\x04\x00",
+            "> load a.efi\n1 0 entry 3 0 0 SUCCESS\nimage 1 handle 3\n= SUCCESS 83\n> load b.efi\n1 0 entry 4 0 0 SUCCESS\nimage 1 handle 4\n= SUCCESS 84\n> load a.efi\n1 0 entry 5 0 0 0x0000000000000005\nimage 1 handle 5\n= SUCCESS 83\n",
+        ),
+    ];
+    for (code, report) in cases {
+        let script = b"load a.efi\nload b.efi\nload a.efi\n";
+        let (status, sink) = replayed(rt.alloc(), script, READER, code)?;
+        assert_eq!(rt; status, 0);
+        assert_eq!(rt; sink.taken(), report.as_bytes());
     }
     Ok(())
 }

@@ -1,56 +1,33 @@
-ghost use Rattle.std.specs.Prelude.{◌≡◌, ◌≤◌, ◌+◌, ◌↔◌, IsTrue, OnOk, false, length};
+ghost use Rattle.std.specs.Prelude.{◌≡◌, ◌≤◌, ◌+◌, ◌↔◌, IfOk, IsTrue, OnOk, false, length};
 ghost use Rattle.std.specs.Bool.{OnTrue, OnFalse};
-ghost use Rattle.replay_shell.specs.World.{begin_command, image_end, is_full_for, next_step as first_step, put_back, spend, with_event, with_image, without_events};
+ghost use Rattle.replay_shell.specs.World.{begin_command, image_end, is_full_for, put_back, spend, with_event, with_image, without_events};
+ghost use Rattle.replay_shell.specs.GuestRun.{entry_ran, ran, with_run};
 ghost use Rattle.replay_shell.specs.DriverModel.{opening};
 
 use crate::image::Image;
-use fw_types::{Event, Handle, OutOfMemory};
+use crate::soft_part::SoftPart;
+use fw_types::{Event, Handle, OutOfMemory, Outcome};
 use std::alloc::Global;
 use std::marker::Model;
-
-/// The most images that are loaded: 4,096 handles may live, of which the firmware has two.
-const MOST_IMAGES: usize = 4094;
-
-/// The most bytes that all images have: 64 MiB.
-const MOST_BYTES: u64 = 67_108_864;
-
-/// An image ends at or below this address.
-const IMAGE_END: u64 = 0x8000_0000;
-
-/// The address of the first image.
-const FIRST_IMAGE: u64 = 0x200_0000;
-
-/// Images lie at multiples of this.
-const IMAGE_STEP: u64 = 0x1_0000;
 
 /// The one state: what an undo puts back, and beside it the units that are left and the events.
 #[derive(Drop)]
 pub struct World {
     alloc: Global,
-    images: Vec<Image>,
-    bytes: u64,
-    next_handle: Handle,
-    next_image: u64,
+    soft: SoftPart,
     units: u64,
     events: Vec<Event>,
 }
 
 impl Model for World {
-    ghost use Rattle.replay_shell.specs.World.{State, IsWithinLimits};
+    ghost use Rattle.replay_shell.specs.World.{State};
 
     ghost Value = { State };
 
     ghost view = { λ inside. record {
-      soft = record {
-        images = inside.images.items;
-        next_handle = inside.next_handle;
-        next_image = inside.next_image;
-      };
+      soft = inside.soft;
       hard = record { units = inside.units; events = inside.events.items };
     } };
-
-    ghost invariant = { λ inside.
-        IsWithinLimits inside.images.items inside.bytes inside.next_handle inside.next_image };
 }
 
 impl World {
@@ -60,10 +37,7 @@ impl World {
     {
         World {
             alloc,
-            images: Vec::new(alloc),
-            bytes: 0,
-            next_handle: Handle::bus_driver().next(),
-            next_image: FIRST_IMAGE,
+            soft: SoftPart::new(alloc),
             units: 0,
             events: Vec::new(alloc),
         }
@@ -125,11 +99,25 @@ impl World {
         std::mem::replace(&mut self.events, Vec::new(self.alloc))
     }
 
+    /// A copy of the soft part, to which an undo can go back.
+    pub fn mark(&self) -> Result<SoftPart, OutOfMemory>
+        ensures { IfOk result (λ mark. mark ≡ self.now.soft) }
+    {
+        self.soft.copy()
+    }
+
+    /// Puts a soft part back.
+    pub fn rollback(&mut self, mark: SoftPart)
+        ensures { self.new ≡ put_back mark self.old }
+    {
+        self.soft = mark;
+    }
+
     /// The handle of the next image.
     pub fn next_handle(&self) -> Handle
         ensures { result ≡ self.now.soft.next_handle }
     {
-        self.next_handle
+        self.soft.next_handle()
     }
 
     /// The address of the next image.
@@ -137,37 +125,34 @@ impl World {
         ensures value { result ≡ self.now.soft.next_image }
         ensures low { result ≤ image_end }
     {
-        self.next_image
+        self.soft.next_image()
     }
 
     /// Whether one more image of so many bytes passes a limit.
     pub fn is_full_for(&self, size: u32) -> bool
         ensures { result ≡ is_full_for size self.now.soft }
     {
-        let size = u64::from(size);
-        self.images.len() >= MOST_IMAGES
-            || self.bytes + size > MOST_BYTES
-            || self.next_image + size > IMAGE_END
+        self.soft.is_full_for(size)
     }
 
-    /// Places an image, under the next handle and at the next address.
-    pub fn add_image(&mut self, image: Image) -> Result<(), OutOfMemory>
-        requires room { is_full_for (length image.bytes) self.old.soft ≡ false }
-        ensures { OnOk result (self.new ≡ put_back (with_image image self.old.soft) self.old) }
+    /// Places an image's bytes at the next address, under the next handle.
+    pub fn add_image(&mut self, image: Image, bytes: Vec<u8>) -> Result<(), OutOfMemory>
+        requires some { 1 ≤ length bytes.items }
+        requires room { is_full_for (length bytes.items) self.old.soft ≡ false }
+        ensures { OnOk result
+            (self.new ≡ put_back (with_image image bytes.items self.old.soft) self.old) }
     {
-        let size = image.bytes.as_slice().len() as u64;
-        self.images.push(image)?;
-        self.bytes += size;
-        self.next_handle = self.next_handle.next();
-        self.next_image = next_step(self.next_image + size);
-        Ok(())
+        self.soft.add_image(image, bytes)
     }
-}
 
-/// The first multiple of the step from an address on.
-fn next_step(at: u64) -> u64
-    requires { at ≤ image_end }
-    ensures { result ≡ first_step at }
-{
-    at.div_ceil(IMAGE_STEP) * IMAGE_STEP
+    /// Runs an image's code from its entry point, with so many units of its own: how the run ends,
+    /// and the units that are left. The units of the world stay.
+    pub fn run_entry(&mut self, image: &Image, units: u64) -> Result<(Outcome, u64), OutOfMemory>
+        ensures ends { IfOk result (λ ended. entry_ran units image.now self.old.soft.memory
+            ≡ ran ended.0 ended.1 (entry_ran units image.now self.old.soft.memory).segments) }
+        ensures soft { OnOk result (self.new ≡ put_back (with_run (entry_ran units image.now self.old.soft.memory) self.old.soft) self.old) }
+        ensures spends { IfOk result (λ ended. ended.1 ≤ units) }
+    {
+        self.soft.run_entry(image, units)
+    }
 }

@@ -1,6 +1,6 @@
-use Rattle.std.proofs.Common.{◌≡◌, ◌<◌, ◌≤◌, ℕ, List, Err, arith, length, rules, ap, subst, sym, ◌∙◌, get_or}
+use Rattle.std.proofs.Common.{◌≡◌, ◌<◌, ◌≤◌, List, Err, arith, length, rules, subst, ◌∙◌, get_or}
 use Rattle.fw_types.specs.declared.command.Command.{Command}
-use Rattle.replay_shell.proofs.ReplayLemmas.{SoFar-end, SoFar-more, StandsAt, stands_at, stopped-here}
+use Rattle.replay_shell.proofs.ReplayLemmas.{SoFar-end, SoFar-more, stands_at, stopped-here}
 use Rattle.replay_shell.proofs.replay.replay.Goals as goal
 
 pub returns-in_err-machine-clause-told : goal.returns-in_err-machine-clause-told

@@ -1,4 +1,4 @@
-use Rattle.std.proofs.Common.{◌≡◌, ◌≤◌, drop, take}
+use Rattle.std.proofs.Common.{◌≡◌, ◌≤◌}
 use Rattle.std.specs.Prelude.{Some}
 use Rattle.fw_shelf.specs.Shelf.{Files}
 use Rattle.replay_shell.proofs.ReplayLemmas.{SoFar}

@@ -1,6 +1,6 @@
 use Rattle.std.proofs.Common.{◌≡◌, [], Ok, Err, sym, subst, ◌∙◌}
 use Rattle.std.specs.Prelude.{Option, Some, None}
-use Rattle.fw_shelf.specs.Shelf.{Files, Gives, Told, file_of}
+use Rattle.fw_shelf.specs.Shelf.{Files, Told, file_of}
 use Rattle.fw_shelf.specs.declared.shelf.ShelfFault.TheVariants.{TooLong}
 use Rattle.replay_shell.proofs.respond.run_script.Goals as goal
 

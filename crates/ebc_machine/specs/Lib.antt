@@ -1,0 +1,5 @@
+pub mod Arithmetic
+pub mod Operands
+pub mod Effects
+pub mod Outcome
+pub mod Step

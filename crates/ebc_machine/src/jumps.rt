@@ -1,0 +1,131 @@
+ghost use Rattle.std.specs.Prelude.{◌≡◌, ◌<◌, ◌^◌, []};
+ghost use Rattle.ebc_decode.specs.Columns.{is_set, jump_32};
+ghost use Rattle.ebc_machine.specs.Effects.{is_taken, base_of, plain_target, target_of, break, jump, jump_8, call, returned};
+
+use crate::cpu::{Cpu, Plan, Request, Size, Store};
+use crate::operands::{
+    goes_on, has_m6, has_m7, is_c, is_x_indirect, jumps, load, signed, to_memory, to_register,
+    with_register, x_of,
+};
+use ebc_decode::{Instr, natural};
+use fw_types::Cause;
+use guest_memory::GuestMem;
+
+/// The version that BREAK 1 tells.
+const VERSION: u64 = 0x1_0000;
+
+/// BREAK.
+pub fn run_break(cpu: &Cpu, instr: &Instr, next: u64) -> Result<Plan, Cause>
+    ensures { result ≡ break cpu.now [] instr.now next }
+{
+    match instr.operands {
+        1 => Ok(to_register(cpu, next, 7, VERSION)),
+        5 => Ok(goes_on(cpu, next, Request::MakeThunk(cpu.r[7]))),
+        3 | 4 | 6 => Ok(goes_on(cpu, next, Request::Nothing)),
+        _ => Err(Cause::Break),
+    }
+}
+
+/// JMP with 32 or 64 bits.
+pub fn run_jump<M: GuestMem>(cpu: &Cpu, mem: &M, instr: &Instr, next: u64) -> Result<Plan, Cause>
+    requires { instr.now.first < 256 ^ jump_32 instr.now.mods 0 }
+    ensures { result ≡ jump cpu.now (M.segments mem.now) instr.now next }
+{
+    let conditional = instr.operands & 0x80 != 0;
+    let wanted = instr.operands & 0x40 != 0;
+    if is_taken(cpu, conditional, wanted) {
+        jumps(cpu, target_of(cpu, mem, instr, next)?)
+    } else {
+        Ok(goes_on(cpu, next, Request::Nothing))
+    }
+}
+
+/// JMP8.
+pub fn run_jump_8(cpu: &Cpu, instr: &Instr, next: u64) -> Result<Plan, Cause>
+    ensures { result ≡ jump_8 cpu.now [] instr.now next }
+{
+    if is_taken(cpu, has_m7(instr), has_m6(instr)) {
+        let units = i64::from(instr.operands.cast_signed());
+        jumps(cpu, next.wrapping_add_signed(2 * units))
+    } else {
+        Ok(goes_on(cpu, next, Request::Nothing))
+    }
+}
+
+/// CALL.
+pub fn run_call<M: GuestMem>(cpu: &Cpu, mem: &M, instr: &Instr, next: u64) -> Result<Plan, Cause>
+    requires { instr.now.first < 256 ^ jump_32 instr.now.mods 0 }
+    ensures { result ≡ call cpu.now (M.segments mem.now) instr.now next }
+{
+    let target = target_of(cpu, mem, instr, next)?;
+    if instr.operands & 0x20 != 0 {
+        return Ok(goes_on(cpu, next, Request::Native(target)));
+    }
+    if target % 2 != 0 {
+        return Err(Cause::Align);
+    }
+    let at = cpu.r[0].wrapping_sub(16);
+    let store = Store {
+        at,
+        size: Size::Quadword,
+        value: next,
+    };
+    Ok(to_memory(&with_register(cpu, 0, at), target, store))
+}
+
+/// RET.
+pub fn run_return<M: GuestMem>(cpu: &Cpu, mem: &M) -> Result<Plan, Cause>
+    ensures { result ≡ returned cpu.now (M.segments mem.now) }
+{
+    let target = load(mem, cpu.r[0], Size::Quadword)?;
+    jumps(&with_register(cpu, 0, cpu.r[0].wrapping_add(16)), target)
+}
+
+/// Whether a jump is taken.
+fn is_taken(cpu: &Cpu, conditional: bool, wanted: bool) -> bool
+    ensures { result ≡ is_taken cpu.now conditional wanted }
+{
+    match (conditional, wanted) {
+        (false, _) => true,
+        (true, true) => is_c(cpu),
+        (true, false) => !is_c(cpu),
+    }
+}
+
+/// The target of JMP and CALL.
+fn target_of<M: GuestMem>(cpu: &Cpu, mem: &M, instr: &Instr, next: u64) -> Result<u64, Cause>
+    requires { instr.now.first < 256 ^ jump_32 instr.now.mods 0 }
+    ensures { result ≡ target_of cpu.now (M.segments mem.now) instr.now next }
+{
+    let target = plain_target(cpu, mem, instr)?;
+    if instr.operands & 0x10 != 0 {
+        Ok(target.wrapping_add(next))
+    } else {
+        Ok(target)
+    }
+}
+
+/// The target of JMP and CALL before the address behind the instruction is added.
+fn plain_target<M: GuestMem>(cpu: &Cpu, mem: &M, instr: &Instr) -> Result<u64, Cause>
+    requires { instr.now.first < 256 ^ jump_32 instr.now.mods 0 }
+    ensures { result ≡ plain_target cpu.now (M.segments mem.now) instr.now }
+{
+    if has_m6(instr) {
+        return Ok(instr.second);
+    }
+    let base = base_of(cpu, instr);
+    if is_x_indirect(instr) {
+        let at = base.wrapping_add_signed(natural(instr.first, 4));
+        load(mem, at, Size::Quadword)
+    } else {
+        Ok(base.wrapping_add_signed(signed(instr.first, 4)))
+    }
+}
+
+/// The base of a 32-bit target.
+fn base_of(cpu: &Cpu, instr: &Instr) -> u64
+    ensures { result ≡ base_of cpu.now instr.now }
+{
+    let register = x_of(instr);
+    if register == 0 { 0 } else { cpu.r[register] }
+}

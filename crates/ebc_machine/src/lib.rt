@@ -1,0 +1,23 @@
+//! One step of EBC over any guest memory: the registers, what a step comes to, and `step` (UEFI
+//! 2.8, chapter 22 'EFI Byte Code Virtual Machine').
+//!
+//! An instruction is planned first: the registers after it, at most one write, and what it asks
+//! for. `step` alone changes anything, so a trap leaves all as it was.
+#![tactic(auto)]
+
+mod arithmetic;
+mod cpu;
+mod jumps;
+pub mod laws;
+mod moves;
+mod narrow;
+mod operands;
+mod operations;
+mod run;
+mod wide;
+
+pub use cpu::{Cpu, StepOut};
+pub use run::{EXIT, step};
+
+#[cfg(test)]
+mod tests;

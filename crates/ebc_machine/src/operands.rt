@@ -1,0 +1,270 @@
+ghost use Rattle.std.specs.Prelude.{◌≡◌, ◌<◌, ◌^◌, IsTrue, IfOk};
+ghost use Rattle.byteorder.specs.Endian.{twos_complement};
+ghost use Rattle.ebc_decode.specs.Columns.{is_set, m6, m7};
+ghost use Rattle.ebc_decode.specs.NaturalIndex.{is_index_size};
+ghost use Rattle.guest_memory.specs.Segment.{is_access};
+ghost use Rattle.ebc_machine.specs.Operands.{bytes_of, low, x_of, y_of, is_x_indirect, is_y_indirect, is_wide, operation_size, load, x_address, y_address, operand_1, operand_2, goes_on, to_register, to_memory, result_to, move_to, jumps, is_c, flagged, with_register};
+
+use crate::cpu::{Cpu, Plan, Request, Size, Store};
+use ebc_decode::{Instr, natural};
+use fw_types::Cause;
+use guest_memory::GuestMem;
+
+impl Size {
+    /// The number of bytes.
+    pub fn bytes(self) -> u8
+        ensures value { result ≡ bytes_of self }
+        ensures access { IsTrue (is_access result) }
+    {
+        match self {
+            Size::Byte => 1,
+            Size::Word => 2,
+            Size::Doubleword => 4,
+            Size::Quadword => 8,
+        }
+    }
+
+    /// The lowest bytes of a number.
+    pub fn low(self, value: u64) -> u64
+        ensures { result ≡ low self value }
+    {
+        match self {
+            Size::Byte => value % 0x100,
+            Size::Word => value % 0x1_0000,
+            Size::Doubleword => value % 0x1_0000_0000,
+            Size::Quadword => value,
+        }
+    }
+}
+
+/// Bit 7 of the first byte.
+pub fn has_m7(instr: &Instr) -> bool
+    ensures { result ≡ m7 instr.now.mods }
+{
+    instr.mods & 2 != 0
+}
+
+/// Bit 6 of the first byte.
+pub fn has_m6(instr: &Instr) -> bool
+    ensures { result ≡ m6 instr.now.mods }
+{
+    instr.mods & 1 != 0
+}
+
+/// The register of operand 1.
+pub fn x_of(instr: &Instr) -> usize
+    ensures value { result ≡ x_of instr.now }
+    ensures small { result < 8 }
+{
+    (instr.operands % 8) as usize
+}
+
+/// The register of operand 2.
+pub fn y_of(instr: &Instr) -> usize
+    ensures value { result ≡ y_of instr.now }
+    ensures small { result < 8 }
+{
+    (instr.operands / 16 % 8) as usize
+}
+
+/// Whether operand 1 is indirect.
+pub fn is_x_indirect(instr: &Instr) -> bool
+    ensures { result ≡ is_x_indirect instr.now }
+{
+    instr.operands & 0x08 != 0
+}
+
+/// Whether operand 2 is indirect.
+pub fn is_y_indirect(instr: &Instr) -> bool
+    ensures { result ≡ is_y_indirect instr.now }
+{
+    instr.operands & 0x80 != 0
+}
+
+/// How many bytes an operation of 64 or of 32 bits has.
+pub fn operation_size(wide: bool) -> Size
+    ensures { result ≡ operation_size wide }
+{
+    if wide {
+        Size::Quadword
+    } else {
+        Size::Doubleword
+    }
+}
+
+/// The value of a number of so many bytes in two's complement.
+pub fn signed(raw: u64, size: u8) -> i64
+    requires size { IsTrue (is_index_size size) }
+    requires fits { raw < 256 ^ size }
+    ensures { result ≡ twos_complement size raw }
+{
+    match size {
+        2 => i64::from((raw as u16).cast_signed()),
+        4 => i64::from((raw as u32).cast_signed()),
+        _ => raw.cast_signed(),
+    }
+}
+
+/// The number in memory. `Memory` where no one segment has all its bytes.
+pub fn load<M: GuestMem>(mem: &M, at: u64, size: Size) -> Result<u64, Cause>
+    ensures value { result ≡ load (M.segments mem.now) at size }
+    ensures fits { IfOk result (λ value. value < 256 ^ bytes_of size) }
+{
+    match mem.read(at, size.bytes()) {
+        Some(value) => Ok(value),
+        None => Err(Cause::Memory),
+    }
+}
+
+/// Where operand 1 is in memory, with an index of so many bytes.
+pub fn x_address(cpu: &Cpu, instr: &Instr, index: u8) -> u64
+    requires size { IsTrue (is_index_size index) }
+    requires fits { instr.now.first < 256 ^ index }
+    ensures { result ≡ x_address cpu.now instr.now index }
+{
+    cpu.r[x_of(instr)].wrapping_add_signed(natural(instr.first, index))
+}
+
+/// Where operand 2 is in memory, with an index of so many bytes.
+pub fn y_address(cpu: &Cpu, instr: &Instr, index: u8) -> u64
+    requires size { IsTrue (is_index_size index) }
+    requires fits { instr.now.second < 256 ^ index }
+    ensures { result ≡ y_address cpu.now instr.now index }
+{
+    cpu.r[y_of(instr)].wrapping_add_signed(natural(instr.second, index))
+}
+
+/// Operand 1 of an operation.
+pub fn operand_1<M: GuestMem>(cpu: &Cpu, mem: &M, instr: &Instr) -> Result<u64, Cause>
+    ensures { result ≡ operand_1 cpu.now (M.segments mem.now) instr.now }
+{
+    let value = cpu.r[x_of(instr)];
+    if is_x_indirect(instr) {
+        load(mem, value, operation_size(has_m6(instr)))
+    } else {
+        Ok(value)
+    }
+}
+
+/// Operand 2 of an operation.
+pub fn operand_2<M: GuestMem>(cpu: &Cpu, mem: &M, instr: &Instr) -> Result<u64, Cause>
+    requires { instr.now.second < 256 ^ 2 }
+    ensures { result ≡ operand_2 cpu.now (M.segments mem.now) instr.now }
+{
+    if is_y_indirect(instr) {
+        load(mem, y_address(cpu, instr, 2), operation_size(has_m6(instr)))
+    } else {
+        Ok(cpu.r[y_of(instr)].wrapping_add_signed(signed(instr.second, 2)))
+    }
+}
+
+/// The registers with one of them changed.
+pub fn with_register(cpu: &Cpu, register: usize, value: u64) -> Cpu
+    requires { register < 8 }
+    ensures { result ≡ with_register cpu.now register value }
+{
+    let mut cpu = *cpu;
+    cpu.r[register] = value;
+    cpu
+}
+
+/// The code goes on at an address, with a request.
+pub fn goes_on(cpu: &Cpu, ip: u64, request: Request) -> Plan
+    ensures { result ≡ goes_on cpu.now ip request }
+{
+    let mut cpu = *cpu;
+    cpu.ip = ip;
+    Plan {
+        cpu,
+        store: None,
+        request,
+    }
+}
+
+/// A register takes a value.
+pub fn to_register(cpu: &Cpu, next: u64, register: usize, value: u64) -> Plan
+    requires { register < 8 }
+    ensures { result ≡ to_register cpu.now next register value }
+{
+    let mut cpu = *cpu;
+    cpu.r[register] = value;
+    cpu.ip = next;
+    Plan {
+        cpu,
+        store: None,
+        request: Request::Nothing,
+    }
+}
+
+/// Memory takes the lowest bytes of a value.
+pub fn to_memory(cpu: &Cpu, next: u64, store: Store) -> Plan
+    ensures { result ≡ to_memory cpu.now next store.at store.size store.value }
+{
+    let mut cpu = *cpu;
+    cpu.ip = next;
+    Plan {
+        cpu,
+        store: Some(store),
+        request: Request::Nothing,
+    }
+}
+
+/// Operand 1 of an operation takes its result.
+pub fn result_to(cpu: &Cpu, instr: &Instr, next: u64, value: u64) -> Plan
+    ensures { result ≡ result_to cpu.now instr.now next value }
+{
+    let register = x_of(instr);
+    if is_x_indirect(instr) {
+        let size = operation_size(has_m6(instr));
+        let at = cpu.r[register];
+        to_memory(cpu, next, Store { at, size, value })
+    } else {
+        to_register(cpu, next, register, value)
+    }
+}
+
+/// Operand 1 of a move, with an index of so many bytes, takes a value.
+pub fn move_to(cpu: &Cpu, instr: &Instr, next: u64, index: u8, size: Size, value: u64) -> Plan
+    requires size { IsTrue (is_index_size index) }
+    requires fits { instr.now.first < 256 ^ index }
+    ensures { result ≡ move_to cpu.now instr.now next index size value }
+{
+    if is_x_indirect(instr) {
+        let at = x_address(cpu, instr, index);
+        to_memory(cpu, next, Store { at, size, value })
+    } else {
+        to_register(cpu, next, x_of(instr), size.low(value))
+    }
+}
+
+/// A jump. `Align` where its target is odd.
+pub fn jumps(cpu: &Cpu, target: u64) -> Result<Plan, Cause>
+    ensures { result ≡ jumps cpu.now target }
+{
+    if target % 2 == 0 {
+        Ok(goes_on(cpu, target, Request::Nothing))
+    } else {
+        Err(Cause::Align)
+    }
+}
+
+/// The condition flag.
+pub fn is_c(cpu: &Cpu) -> bool
+    ensures { result ≡ is_c cpu.now }
+{
+    cpu.flags & 1 != 0
+}
+
+/// The condition flag takes the outcome of a comparison.
+pub fn flagged(cpu: &Cpu, next: u64, c: bool) -> Plan
+    ensures { result ≡ flagged cpu.now next c }
+{
+    let mut cpu = *cpu;
+    cpu.flags = cpu.flags / 2 * 2 + if c { 1 } else { 0 };
+    cpu.ip = next;
+    Plan {
+        cpu,
+        store: None,
+        request: Request::Nothing,
+    }
+}

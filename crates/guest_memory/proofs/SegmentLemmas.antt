@@ -1,0 +1,129 @@
+-- How mapping, unmapping and writing leave segments apart, and what segments that lie apart have.
+use Rattle.std.proofs.Common.{◌≡◌, ◌<◌, ◌-◌, ◌≤◌, ℕ, ◌+◌, ◌^◌, max, Bool, true, false, nat_eq, List, [], ◌∷◌, length-append, length-take, length-drop, ◌++◌, take, drop, set, length, get_or, suc, refl, ap, sym, ◌∙◌, arith}
+use Rattle.std.specs.Prelude.{if◌then◌else◌}
+use Rattle.std.specs.List.{list_any}
+use Rattle.std.proofs.Math.Seq.{drop-cons}
+use Rattle.std.proofs.lemmas.List.{set_split}
+use Rattle.std.proofs.lemmas.List.Sums.{sum_by-cons}
+use Rattle.std.proofs.lemmas.Bool.Decides.{nat_tests}
+use Rattle.byteorder.specs.Endian.{little_bytes}
+use Rattle.byteorder.specs.Numbers.{length-bytes_low_first}
+use Rattle.guest_memory.specs.Segment.{has_bytes, with_number, replaced, extent, end_of, meets}
+use Rattle.guest_memory.specs.GuestMemory.{written, layout, lie_from, overlaps, mapped, unmapped, total_of, kind_number}
+use Rattle.guest_memory.specs.declared.segment.Segment.{Segment}
+use Rattle.guest_memory.specs.declared.segment.SegKind.{SegKind}
+
+-- ---- a write
+
+-- the first segment has the bytes
+written-first : (segment : Segment) (rest : List Segment) (at n value : ℕ) → has_bytes segment at n ≡ true
+    → written (segment ∷ rest) at n value ≡ with_number segment at n value ∷ rest
+written-first segment rest at n value has = rw has refl
+
+-- the segment at a place has the bytes, and none before it
+pub written_at : (segments : List Segment) (i at n value : ℕ) (segment : Segment) → i < length segments → segment ≡ get_or segments i segment → has_bytes segment at n ≡ true
+    → take i segments ++ written (drop i segments) at n value ≡ written segments at n value
+    → set segments i (with_number segment at n value) ≡ written segments at n value
+written_at segments i at n value segment inside here has before =
+    let rest : drop i segments ≡ segment ∷ drop (suc i) segments = drop-cons segments i segment inside ∙ ap (λ s. s ∷ drop (suc i) segments) (sym here) in
+    set_split segments i (with_number segment at n value) inside
+    ∙ ap (λ tail. take i segments ++ tail) (sym (ap (λ tail. written tail at n value) rest ∙ written-first segment (drop (suc i) segments) at n value has))
+    ∙ before
+
+-- bytes in the place of others leave the length
+length-replaced : (bytes : List ℕ) (i : ℕ) (others : List ℕ) → i + length others ≤ length bytes → length (replaced bytes i others) ≡ length bytes
+length-replaced bytes i others h =
+    omega (arith, length-append (take i bytes ++ others) (drop (i + length others) bytes), length-append (take i bytes) others, length-take i bytes, length-drop (i + length others) bytes)
+
+-- a write leaves a segment's extent
+extent-with_number : (segment : Segment) (at n value : ℕ) → has_bytes segment at n ≡ true → extent (with_number segment at n value) ≡ extent segment
+extent-with_number segment at n value has =
+    let size : length (little_bytes n value) ≡ n = length-bytes_low_first 0 n value in
+    ap (max 1) (length-replaced segment.bytes (at - segment.base) (little_bytes n value) (grind (arith, nat_tests)))
+
+lie_from-written-more : (from : ℕ) (segment : Segment) (segments : List Segment) (at n value : ℕ) → lie_from (end_of segment) (written segments at n value) ≡ lie_from (end_of segment) segments
+    → lie_from from (written (segment ∷ segments) at n value) ≡ lie_from from (segment ∷ segments)
+lie_from-written-more from segment segments at n value rest = grind (arith, rest, extent-with_number segment at n value)
+
+-- a write leaves where the segments lie
+pub lie_from-written : (from : ℕ) (segments : List Segment) (at n value : ℕ) → lie_from from (written segments at n value) ≡ lie_from from segments
+lie_from-written from [] at n value = refl
+lie_from-written from (segment ∷ segments) at n value =
+    lie_from-written-more from segment segments at n value (lie_from-written (end_of segment) segments at n value)
+
+-- so does one that is refused
+pub lie_from-answered : (done : Bool) (segments : List Segment) (at n value : ℕ) → lie_from 0 (if done then written segments at n value else segments) ≡ lie_from 0 segments
+lie_from-answered true segments at n value = lie_from-written 0 segments at n value
+lie_from-answered false segments at n value = refl
+
+-- a write leaves a segment's length
+length-with_number : (segment : Segment) (at n value : ℕ) → has_bytes segment at n ≡ true → length (with_number segment at n value).bytes ≡ length segment.bytes
+length-with_number segment at n value has =
+    let size : length (little_bytes n value) ≡ n = length-bytes_low_first 0 n value in
+    length-replaced segment.bytes (at - segment.base) (little_bytes n value) (grind (arith, nat_tests))
+
+layout-written-more : (has : Bool) (segment : Segment) (segments : List Segment) (at n value : ℕ) → (has ≡ true → length (with_number segment at n value).bytes ≡ length segment.bytes) → layout (written segments at n value) ≡ layout segments
+    → layout (if has then with_number segment at n value ∷ segments else segment ∷ written segments at n value) ≡ layout (segment ∷ segments)
+layout-written-more true segment segments at n value size rest = ap (λ (size : ℕ). (segment.base, size, kind_number segment.kind) ∷ layout segments) (size refl)
+layout-written-more false segment segments at n value size rest = ap (λ entries. (segment.base, length segment.bytes, kind_number segment.kind) ∷ entries) rest
+
+-- a write leaves where the segments lie, how long they are and of which kinds
+pub layout-written : (segments : List Segment) (at n value : ℕ) → layout (written segments at n value) ≡ layout segments
+layout-written [] at n value = refl
+layout-written (segment ∷ segments) at n value =
+    layout-written-more (has_bytes segment at n) segment segments at n value (length-with_number segment at n value) (layout-written segments at n value)
+
+-- ---- unmapping
+
+-- segments that lie from an address on lie from each one below it
+lie_from-below : (segments : List Segment) (a b : ℕ) → a ≤ b → lie_from b segments ≡ true → lie_from a segments ≡ true
+lie_from-below [] a b h lie = grind (arith, nat_tests)
+lie_from-below (segment ∷ segments) a b h lie = grind (arith, nat_tests)
+
+lie_from-unmapped-more : (a : ℕ) (segment : Segment) (segments : List Segment) (base : ℕ) → lie_from a (segment ∷ segments) ≡ true
+    → (lie_from (end_of segment) segments ≡ true → lie_from (end_of segment) (unmapped segments base) ≡ true)
+    → lie_from a (unmapped (segment ∷ segments) base) ≡ true
+lie_from-unmapped-more a segment segments base lie rest =
+    let below : a ≤ end_of segment → lie_from (end_of segment) segments ≡ true → lie_from a segments ≡ true = λ h l. lie_from-below segments a (end_of segment) h l in
+    grind (arith, nat_tests, rest, below)
+
+-- segments still lie apart without one
+pub lie_from-unmapped : (a : ℕ) (segments : List Segment) (base : ℕ) → lie_from a segments ≡ true → lie_from a (unmapped segments base) ≡ true
+lie_from-unmapped a [] base lie = lie
+lie_from-unmapped a (segment ∷ segments) base lie =
+    lie_from-unmapped-more a segment segments base lie (lie_from-unmapped (end_of segment) segments base)
+
+-- ---- mapping
+
+lie_from-mapped-more : (a : ℕ) (new segment : Segment) (segments : List Segment) → lie_from a (segment ∷ segments) ≡ true → a ≤ new.base → end_of new ≤ 2 ^ 63 → list_any (λ other. meets new other) (segment ∷ segments) ≡ false
+    → (lie_from (end_of segment) segments ≡ true → end_of segment ≤ new.base → list_any (λ other. meets new other) segments ≡ false → lie_from (end_of segment) (mapped new segments) ≡ true)
+    → lie_from a (mapped new (segment ∷ segments)) ≡ true
+lie_from-mapped-more a new segment segments lie from end apart rest = grind (arith, nat_tests, rest)
+
+-- segments lie apart with one more that meets none
+lie_from-mapped : (a : ℕ) (new : Segment) (segments : List Segment) → lie_from a segments ≡ true → a ≤ new.base → end_of new ≤ 2 ^ 63 → list_any (λ other. meets new other) segments ≡ false
+    → lie_from a (mapped new segments) ≡ true
+lie_from-mapped a new [] lie from end apart = grind (arith, nat_tests)
+lie_from-mapped a new (segment ∷ segments) lie from end apart =
+    lie_from-mapped-more a new segment segments lie from end apart (λ l f n. lie_from-mapped (end_of segment) new segments l f end n)
+
+pub lie_from-mapped_apart : (new : Segment) (segments : List Segment) → lie_from 0 segments ≡ true → overlaps segments new ≡ false → lie_from 0 (mapped new segments) ≡ true
+lie_from-mapped_apart new segments lie room =
+    lie_from-mapped 0 new segments lie (omega arith) (grind (arith, nat_tests)) (grind (arith, nat_tests))
+
+-- ---- totals
+
+total_of-le-more : (a : ℕ) (segment : Segment) (segments : List Segment) (kind : SegKind) → lie_from a (segment ∷ segments) ≡ true
+    → (lie_from (end_of segment) segments ≡ true → end_of segment + total_of segments kind ≤ 2 ^ 63)
+    → a + total_of (segment ∷ segments) kind ≤ 2 ^ 63
+total_of-le-more a segment segments kind lie rest =
+    let split : total_of (segment ∷ segments) kind ≡ (if nat_eq (kind_number segment.kind) (kind_number kind) then length segment.bytes else 0) + total_of segments kind = sum_by-cons (λ segment. if nat_eq (kind_number segment.kind) (kind_number kind) then length segment.bytes else 0) segment segments in
+    grind (arith, nat_tests, rest, split)
+
+-- segments that lie apart have no more bytes than there are addresses
+total_of-le : (a : ℕ) (segments : List Segment) (kind : SegKind) → lie_from a segments ≡ true → a + total_of segments kind ≤ 2 ^ 63
+total_of-le a [] kind lie = grind (arith, nat_tests)
+total_of-le a (segment ∷ segments) kind lie = total_of-le-more a segment segments kind lie (total_of-le (end_of segment) segments kind)
+
+pub total_bound : (segments : List Segment) (kind : SegKind) → lie_from 0 segments ≡ true → total_of segments kind ≤ 2 ^ 63
+total_bound segments kind lie = omega (arith, total_of-le 0 segments kind lie)

@@ -1,0 +1,139 @@
+-- The memory that a driver's code sees: a list of segments, sorted by address, no two of which meet.
+use Rattle.std.specs.Prelude.{◌≡◌, ◌<◌, ℕ, ◌+◌, ◌^◌, sum_by, count_by, find, Bool, ◌&&◌, ◌||◌, false, nat_le, nat_lt, nat_eq, List, [], ◌∷◌, length, map, remove, slice_index_or, Option, Some, None, Result, Ok, Err, if◌then◌else◌}
+use Rattle.std.specs.List.{list_any}
+use Rattle.guest_memory.specs.Segment.{is_writable, is_image, is_block, has_bytes, number_at, with_number, code_at, end_of, meets}
+use Rattle.guest_memory.specs.declared.segment.Segment.{Segment}
+use Rattle.guest_memory.specs.declared.segment.SegKind.{SegKind}
+use Rattle.guest_memory.specs.declared.segment.SegKind.TheVariants.{Image, Pool, Firmware, Stack, Table}
+use Rattle.guest_memory.specs.declared.guest.MemRefusal.{MemRefusal}
+use Rattle.guest_memory.specs.declared.guest.MemRefusal.TheVariants.{NoSegment, ReadOnly, Overlap, Full, OutOfMemory}
+
+-- ---- reading and writing
+
+-- the segment that has all n bytes from an address on
+abbrev pub holder : List Segment → ℕ → ℕ → Option Segment
+holder segments at n = find (λ segment. has_bytes segment at n) segments
+
+-- the number in n bytes, where one segment has them all
+abbrev pub number_in : Option Segment → ℕ → ℕ → Option ℕ
+number_in None at n = None
+number_in (Some segment) at n = Some (number_at segment at n)
+
+abbrev pub loaded : List Segment → ℕ → ℕ → Option ℕ
+loaded segments at n = number_in (holder segments at n) at n
+
+-- what a write answers, by the segment that has the bytes
+abbrev pub answer_at : Option Segment → Result Unit MemRefusal
+answer_at None = Err NoSegment
+answer_at (Some segment) = if is_writable segment.kind then Ok tt else Err ReadOnly
+
+abbrev pub write_answer : List Segment → ℕ → ℕ → Result Unit MemRefusal
+write_answer segments at n = answer_at (holder segments at n)
+
+-- the segments with the lowest n bytes of a number in the one that has the bytes, and nothing else changed
+abbrev pub written : List Segment → ℕ → ℕ → ℕ → List Segment
+written [] at n value = []
+written (segment ∷ segments) at n value =
+    if has_bytes segment at n then with_number segment at n value ∷ segments
+    else segment ∷ written segments at n value
+
+-- the image that has an address
+abbrev pub image_with : List Segment → ℕ → Option Segment
+image_with segments at = find (λ segment. is_image segment.kind && has_bytes segment at 1) segments
+
+-- its code from there on, at most 18 bytes
+abbrev pub code_in : Option Segment → ℕ → List ℕ
+code_in None at = []
+code_in (Some segment) at = code_at segment at
+
+abbrev pub fetched : List Segment → ℕ → List ℕ
+fetched segments at = code_in (image_with segments at) at
+
+-- A call gives this answer, unless memory ran out. A write gives neither Overlap nor Full.
+abbrev pub Gives : Result Unit MemRefusal → Result Unit MemRefusal → Type 0
+Gives (Err OutOfMemory) answer = Unit {0}
+Gives (Ok done) answer = answer ≡ Ok done
+Gives (Err NoSegment) answer = answer ≡ Err NoSegment
+Gives (Err ReadOnly) answer = answer ≡ Err ReadOnly
+Gives (Err Overlap) answer = answer ≡ Err Overlap
+Gives (Err Full) answer = answer ≡ Err Full
+
+-- ---- mapping
+
+-- whether segments lie one behind the other from an address on, and end by 2^63
+abbrev pub lie_from : ℕ → List Segment → Bool
+lie_from at [] = nat_le at (2 ^ 63)
+lie_from at (segment ∷ segments) = nat_le at segment.base && lie_from (end_of segment) segments
+
+-- whether one more segment passes 2^63 or meets another
+abbrev pub overlaps : List Segment → Segment → Bool
+overlaps segments new = nat_lt (2 ^ 63) (end_of new) || list_any (λ other. meets new other) segments
+
+-- kinds by number
+abbrev pub kind_number : SegKind → ℕ
+kind_number Image = 0
+kind_number Pool = 1
+kind_number Firmware = 2
+kind_number Stack = 3
+kind_number Table = 4
+
+-- how many bytes the segments of a kind have
+abbrev pub total_of : List Segment → SegKind → ℕ
+total_of segments kind =
+    sum_by (λ segment. if nat_eq (kind_number segment.kind) (kind_number kind) then length segment.bytes else 0) segments
+
+-- how many blocks there are, of the pool and of the firmware
+abbrev pub block_count : List Segment → ℕ
+block_count segments = count_by (λ segment. is_block segment.kind) segments
+
+-- the most bytes of all images, and of all blocks
+abbrev pub most_bytes : ℕ
+most_bytes = 67108864
+
+abbrev pub most_blocks : ℕ
+most_blocks = 65536
+
+abbrev pub is_pool_full : List Segment → ℕ → Bool
+is_pool_full segments size =
+    nat_lt most_bytes (total_of segments Pool + total_of segments Firmware + size) || nat_le most_blocks (block_count segments)
+
+-- whether so many more bytes are too many for a kind
+abbrev pub is_full : List Segment → SegKind → ℕ → Bool
+is_full segments Image size = nat_lt most_bytes (total_of segments Image + size)
+is_full segments Pool size = is_pool_full segments size
+is_full segments Firmware size = is_pool_full segments size
+is_full segments Stack size = false
+is_full segments Table size = false
+
+-- what mapping a segment answers
+abbrev pub map_answer : List Segment → Segment → Result Unit MemRefusal
+map_answer segments new =
+    if overlaps segments new then Err Overlap
+    else if is_full segments new.kind (length new.bytes) then Err Full
+    else Ok tt
+
+-- the segments with one more, in its place by address
+abbrev pub mapped : Segment → List Segment → List Segment
+mapped new [] = new ∷ []
+mapped new (segment ∷ segments) =
+    if nat_lt segment.base new.base then segment ∷ mapped new segments else new ∷ segment ∷ segments
+
+-- the segment that begins at an address
+abbrev pub beginning_at : List Segment → ℕ → Result Segment MemRefusal
+beginning_at [] base = Err NoSegment
+beginning_at (segment ∷ segments) base = if nat_eq segment.base base then Ok segment else beginning_at segments base
+
+-- the segments without that one
+abbrev pub unmapped : List Segment → ℕ → List Segment
+unmapped [] base = []
+unmapped (segment ∷ segments) base = if nat_eq segment.base base then segments else segment ∷ unmapped segments base
+
+-- the segment at a place is the one that begins at an address
+abbrev pub IsPlaceOf : List Segment → ℕ → ℕ → Type 0
+IsPlaceOf segments base place =
+    (place < length segments) × ((d : Segment) → beginning_at segments base ≡ Ok (slice_index_or segments place d))
+    × (unmapped segments base ≡ remove segments place)
+
+-- where the segments lie, how many bytes each has, and of which kind it is
+abbrev pub layout : List Segment → List (ℕ × ℕ × ℕ)
+layout segments = map (λ segment. (segment.base, length segment.bytes, kind_number segment.kind)) segments

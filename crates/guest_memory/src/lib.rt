@@ -1,0 +1,16 @@
+//! The memory that a driver's code sees: segments of bytes at addresses, no two of which meet.
+//!
+//! `GuestMem` is memory as the code uses it, by what a contract sees of it: the list of its
+//! segments. `Memory` is such a memory, into which segments are mapped.
+#![tactic(auto)]
+
+mod guest;
+mod memory;
+mod segment;
+
+pub use guest::{GuestMem, MemRefusal};
+pub use memory::Memory;
+pub use segment::{SegKind, Segment};
+
+#[cfg(test)]
+mod tests;
