@@ -1,0 +1,3 @@
+pub mod RomLemmas
+pub mod LayoutLemmas
+pub mod RangesLemmas

@@ -1,0 +1,5 @@
+use Rattle.option_rom.proofs.RomLemmas.{images-most}
+use Rattle.option_rom.proofs.walk.images.Goals as goal
+
+pub returns-clause-most : goal.returns-clause-most
+returns-clause-most c = images-most c.args.bytes.now

@@ -1,0 +1,124 @@
+-- The grammar of option ROMs: bytes are images, one behind the other, and an end (PCI Firmware 3.2: PCI
+-- Expansion ROM Header Format, PCI Data Structure Format; UEFI 2.8: PCI Option ROMs). The words on an image
+-- speak of `rest`, the bytes of the ROM from the image's first byte on.
+use Rattle.std.specs.Prelude.{ℕ, zero, suc, ◌+◌, ◌*◌, ◌/◌, ◌%◌, ◌^◌, List, [], ◌∷◌, length, take, drop, slice_index, Bool, true, false, not, ◌&&◌, ◌||◌, nat_eq, nat_lt, codes, Option, Some, None, option_map, if◌then◌else◌}
+use Rattle.std.specs.List.{find, starts_with}
+use Rattle.byteorder.specs.Endian.{little_number}
+use Rattle.fw_types.specs.declared.image.RomEnd.{RomEnd}
+use Rattle.fw_types.specs.declared.image.RomEnd.TheVariants.{Done, BadSignature, BadPcir, LengthZero, PastEnd}
+
+-- ---- fields
+
+-- the numbers in two and in four bytes at a place, the lowest byte first
+abbrev pub word_at : ℕ → List ℕ → ℕ
+word_at at bytes = little_number 2 (drop at bytes)
+
+abbrev pub long_at : ℕ → List ℕ → ℕ
+long_at at bytes = little_number 4 (drop at bytes)
+
+-- where the PCI data structure begins, from the image's first byte
+abbrev pub pcir_place : List ℕ → ℕ
+pcir_place rest = word_at 24 rest
+
+-- the PCI data structure, and what is behind it
+abbrev pub pcir : List ℕ → List ℕ
+pcir rest = drop (pcir_place rest) rest
+
+-- how many bytes the image has: its length counts units of 512
+abbrev pub image_length : List ℕ → ℕ
+image_length rest = 512 * word_at 16 (pcir rest)
+
+-- bit 7 of the indicator: no image is behind this one
+abbrev pub is_last : List ℕ → Bool
+is_last rest = nat_eq (slice_index (pcir rest) 21 / 2 ^ 7 % 2) 1
+
+-- ---- what is no image
+
+-- the header is cut off, or does not begin with its signature
+abbrev pub lacks_header : List ℕ → Bool
+lacks_header rest = nat_lt (length rest) 26 || not (starts_with nat_eq rest (0x55 ∷ 0xAA ∷ []))
+
+-- the PCI data structure is cut off, or does not begin with its signature
+abbrev pub lacks_pcir : List ℕ → Bool
+lacks_pcir rest = nat_lt (length rest) (pcir_place rest + 24) || not (starts_with nat_eq (pcir rest) (codes "PCIR"))
+
+abbrev pub has_no_length : List ℕ → Bool
+has_no_length rest = nat_eq (image_length rest) 0
+
+-- the image is longer than what is left of the ROM
+abbrev pub is_cut_off : List ℕ → Bool
+is_cut_off rest = nat_lt (length rest) (image_length rest)
+
+-- a test, and how a ROM ends where it holds
+pub record Condition : Type 0 where
+  pub holds : List ℕ → Bool
+  pub end : RomEnd
+
+-- the conditions in the order in which they count
+abbrev pub conditions : List Condition
+conditions =
+    record { holds = lacks_header; end = BadSignature }
+    ∷ record { holds = lacks_pcir; end = BadPcir }
+    ∷ record { holds = has_no_length; end = LengthZero }
+    ∷ record { holds = is_cut_off; end = PastEnd }
+    ∷ []
+
+-- why no image stands here: the first condition that holds. Where none does, one stands here
+abbrev pub end_at : List ℕ → Option RomEnd
+end_at rest = option_map (λ condition. condition.end) (find (λ condition. condition.holds rest) conditions)
+
+-- ---- what an image says
+
+pub record Image : Type 0 where
+  pub vendor : ℕ
+  pub device : ℕ
+  pub class : ℕ
+  pub code_type : ℕ
+  pub machine : ℕ
+  pub compression : ℕ
+  pub body : List ℕ
+
+-- code type 3 and the EFI signature: the header is that of an EFI image
+abbrev pub is_efi : List ℕ → Bool
+is_efi rest = nat_eq (slice_index (pcir rest) 20) 3 && nat_eq (long_at 4 rest) 0x0EF1
+
+-- the bytes of the image
+abbrev pub image_bytes : List ℕ → List ℕ
+image_bytes rest = take (image_length rest) rest
+
+-- vendor, device, class and code type stand in the PCI data structure. The header of an EFI image has its
+-- machine, its compression, and where its body begins; of another image the body is the whole
+abbrev pub image_at : List ℕ → Image
+image_at rest = record {
+  vendor = word_at 4 (pcir rest);
+  device = word_at 6 (pcir rest);
+  class = little_number 3 (drop 13 (pcir rest));
+  code_type = slice_index (pcir rest) 20;
+  machine = if is_efi rest then word_at 10 rest else 0;
+  compression = if is_efi rest then word_at 12 rest else 0;
+  body = if is_efi rest then drop (word_at 22 rest) (image_bytes rest) else image_bytes rest;
+}
+
+-- ---- the ROM
+
+-- images, and how the ROM ends
+pub record Rom : Type 0 where
+  pub images : List Image
+  pub end : RomEnd
+
+-- what stands here, where `more` is the ROM behind the image: nothing but the end, the last image, or an
+-- image and more
+abbrev pub rom_from : Option RomEnd → Bool → Image → Rom → Rom
+rom_from (Some end) last image more = record { images = []; end = end }
+rom_from None true image more = record { images = image ∷ []; end = Done }
+rom_from None false image more = record { images = image ∷ more.images; end = more.end }
+
+-- the ROM in bytes of which there are at most so many: each image has at least one
+unfoldable pub rom_within : ℕ → List ℕ → Rom
+rom_within zero rest = record { images = []; end = BadSignature }
+rom_within (suc most) rest =
+    rom_from (end_at rest) (is_last rest) (image_at rest) (rom_within most (drop (image_length rest) rest))
+
+-- the ROM that bytes are
+unfoldable pub rom_in : List ℕ → Rom
+rom_in bytes = rom_within (length bytes) bytes

@@ -1,0 +1,28 @@
+use std::marker::Model;
+
+/// An image of an option ROM. Contracts see its fields, the body as a list.
+#[derive(Debug, Drop)]
+pub struct RomImage<'a> {
+    /// The vendor ID of the device that it is for.
+    pub vendor: u16,
+    /// The device ID.
+    pub device: u16,
+    /// The class code, of 24 bits.
+    pub class: u32,
+    /// The code type: 3 is EFI.
+    pub code_type: u8,
+    /// The machine of an EFI image, 0x0EBC for EBC; 0 of another image.
+    pub machine: u16,
+    /// How the body of an EFI image is compressed, 0 for not at all; 0 of another image.
+    pub compression: u16,
+    /// The driver's file in an EFI image, with what is behind it; all bytes of another image.
+    pub body: &'a [u8],
+}
+
+impl<'a> Model for RomImage<'a> {
+    ghost use Rattle.option_rom.specs.RomGrammar.{Image};
+
+    ghost Value = { Image };
+
+    ghost view = { λ image. record { vendor = image.vendor; device = image.device; class = image.class; code_type = image.code_type; machine = image.machine; compression = image.compression; body = image.body.now } };
+}

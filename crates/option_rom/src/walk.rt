@@ -1,0 +1,98 @@
+ghost use Rattle.std.specs.Prelude.{◌≡◌, ◌*◌, ◌≤◌, ◌||◌, is_none, length, if◌then◌else◌};
+ghost use Rattle.option_rom.specs.RomWalk.{Takes, walk_of, end_of};
+ghost use Rattle.option_rom.specs.RomGrammar.{is_last};
+ghost use Rattle.option_rom.specs.RomRead.{HasPcir};
+ghost use Rattle.option_rom.specs.declared.walk.Place.TheVariants.{Reading, BehindLast};
+
+use crate::header;
+use crate::image::RomImage;
+use fw_types::RomEnd;
+use std::marker::Model;
+
+/// Where a walk stands.
+#[derive(Clone, Copy, Debug)]
+enum Place {
+    /// In front of an image, or of the end.
+    Reading,
+    /// Behind the image that says that it is the last.
+    BehindLast,
+    /// At the end, of which it has told.
+    Over(RomEnd),
+}
+
+/// A walk over the images of an option ROM. Contracts see the images that it has not given yet, how the ROM
+/// ends, and whether the walk is over.
+#[derive(Debug, Drop)]
+pub struct RomIter<'a> {
+    rest: &'a [u8],
+    place: Place,
+}
+
+impl<'a> Model for RomIter<'a> {
+    ghost use Rattle.option_rom.specs.RomWalk.{Walk, walk_at};
+
+    ghost Value = { Walk };
+
+    ghost view = { λ walk. walk_at walk.rest.now walk.place };
+}
+
+/// The walk over the images of an option ROM, from its first byte on. Takes no memory, nor do its steps.
+pub fn images(bytes: &[u8]) -> RomIter<'_>
+    ensures walk { result ≡ walk_of bytes.now }
+    // Each image has at least 512 bytes.
+    ensures most { 512 * length result.images ≤ length bytes.now }
+{
+    RomIter {
+        rest: bytes,
+        place: Place::Reading,
+    }
+}
+
+impl<'a> RomIter<'a> {
+    /// The next image; `None` where there is no further one, from then on.
+    pub fn next(&mut self) -> Option<RomImage<'a>>
+        ensures image { Takes self.old.images result self.new.images }
+        ensures end { self.new.end ≡ self.old.end }
+        ensures over { self.new.is_over ≡ self.old.is_over || is_none result }
+    {
+        match self.place {
+            Place::Reading => {
+                let rest = self.rest;
+                if let Some(end) = header::end_at(rest) {
+                    self.place = Place::Over(end);
+                    return None;
+                }
+                self.rest = &rest[header::image_length(rest)..];
+                self.place = place_behind(rest);
+                Some(header::image_at(rest))
+            }
+            Place::BehindLast => {
+                self.place = Place::Over(RomEnd::Done);
+                None
+            }
+            Place::Over(_) => None,
+        }
+    }
+
+    /// How the ROM ended; `None` until `next` has answered `None`.
+    pub fn end(&self) -> Option<RomEnd>
+        ensures { result ≡ end_of self.now }
+    {
+        match self.place {
+            Place::Reading | Place::BehindLast => None,
+            Place::Over(end) => Some(end),
+        }
+    }
+}
+
+/// Where a walk stands behind the image at the front.
+fn place_behind(rest: &[u8]) -> Place
+    requires { HasPcir rest.now }
+    ensures { result ≡ (if is_last rest.now then BehindLast else Reading) }
+{
+    if header::is_last(rest) {
+        Place::BehindLast
+    } else {
+        Place::Reading
+    }
+}
