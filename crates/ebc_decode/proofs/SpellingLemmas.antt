@@ -281,3 +281,23 @@ pub instruction-spells : (instr : Instr) → IsInstruction instr → (bytes : Li
 instruction-spells instr h =
     let parts = some-parts (listed_form instr.op instr.mods instr.operands) (FitsForm instr) h in
     (spelling parts.0 instr instr.mods instr.operands, plain-spells instr parts.0 parts.1 parts.2)
+
+-- what is decoded has as many bytes as its form, and no fewer are there
+pub decoded-form : (bytes : List ℕ) (instr : Instr) (n : ℕ) → ((i : ℕ) → get_or bytes i 0 < 256) → decoded bytes ≡ Ok (instr, n)
+    → IsSomeAnd (listed_form instr.op instr.mods instr.operands) (λ form. FitsForm instr form × (n ≡ 2 + form.first + form.second) × (n ≤ length bytes))
+decoded-form bytes instr n small e =
+    let s = decoded-found bytes (instr, n) small e in
+    let parts = found-in (nat_lt (length bytes) 2) (listed_form (slice_index bytes 0 % 64) (slice_index bytes 0 / 64) (slice_index bytes 1)) bytes (instr, n) e in
+    let size : 2 + parts.0.first + parts.0.second ≡ n = ap (λ (p : Instr × ℕ). p.1) parts.3 in
+    let room : n ≤ length bytes = omega (arith, enough (length bytes) (2 + parts.0.first + parts.0.second) parts.2) in
+    let listed = form-spelled (take n bytes) instr s in
+    let same : n ≡ 2 + s.form.first + s.form.second = omega (arith, length-spelled (take n bytes) instr s.form s listed, length-take n bytes) in
+    some_and (listed_form instr.op instr.mods instr.operands) s.form _ listed (fits-spelled (take n bytes) instr s, same, room)
+
+-- the bytes of an instruction of a form are decoded to it
+pub spelling-decoded : (instr : Instr) (form : Form) (rest : List ℕ) → listed_form instr.op instr.mods instr.operands ≡ Some form → FitsForm instr form
+    → decoded (spelling form instr instr.mods instr.operands ++ rest) ≡ Ok (instr, 2 + form.first + form.second)
+spelling-decoded instr form rest listed fits =
+    let bytes = spelling form instr instr.mods instr.operands in
+    decoded-only (bytes ++ rest) bytes rest instr (plain-spells instr form listed fits) refl
+    ∙ rw (length-spelling form instr instr.mods instr.operands) refl

@@ -1,0 +1,16 @@
+pub mod AssemblyLemmas
+pub mod EncodingLemmas
+pub mod HexLemmas
+pub mod LineLemmas
+pub mod LinesLemmas
+pub mod ListingLemmas
+pub mod NumberLemmas
+pub mod TestLemmas
+pub mod NumbersReadBack
+pub mod SafeText
+pub mod ReadBack
+pub mod TableTest
+pub mod OperandsReadBack
+pub mod NamesReadBack
+pub mod InstructionsReadBack
+pub mod LinesReadBack

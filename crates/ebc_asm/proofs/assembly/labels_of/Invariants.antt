@@ -1,0 +1,15 @@
+-- The labels so far, and those of the rest.
+use Rattle.std.proofs.Common.{◌≡◌, ◌+◌, ◌*◌, ◌^◌, ◌≤◌, ◌++◌, length}
+use Rattle.std.specs.Str.Lines.{lines}
+use Rattle.ebc_asm.specs.Assembly.{labels_from}
+use Rattle.ebc_asm.proofs.assembly.labels_of.Given as goal
+
+abbrev pub invariant-lines : goal.invariant-lines
+invariant-lines l = record {
+  found : labels_from 1 0 (lines l.fn.text) ≡ l.labels ++ labels_from l.number l.place (lines l.rest);
+  number : l.number + length l.rest ≤ 2 ^ 32;
+  place : l.place + 20 * length l.rest ≤ 20 * 2 ^ 32;
+}
+
+abbrev pub decreases-lines : goal.decreases-lines
+decreases-lines l = length l.rest
