@@ -1,1 +1,2 @@
+pub mod Guid
 pub mod Status

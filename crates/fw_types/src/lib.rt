@@ -20,7 +20,7 @@ mod text;
 pub use command::Command;
 pub use dump::DumpLine;
 pub use event::{Cause, Event, EventKind, Outcome};
-pub use guid::Guid;
+pub use guid::{Guid, Known};
 pub use handle::Handle;
 pub use image::{ImageNote, PeRefusal, RomEnd};
 pub use memory::OutOfMemory;

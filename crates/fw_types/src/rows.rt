@@ -1,6 +1,7 @@
-ghost use Rattle.std.specs.Prelude.{◌≡◌, ◌≤◌, ◌+◌, ◌++◌, List, length, take, drop};
+ghost use Rattle.std.specs.Prelude.{◌≡◌, ◌<◌, ◌≤◌, ◌+◌, ◌++◌, [], ◌∷◌, List, if◌then◌else◌, is_ok, length, remove, slice_index_or, take, drop};
 ghost use Rattle.std.specs.Cmp.Lexicographic.{pointwise, lists_per};
 
+use crate::memory::OutOfMemory;
 use std::marker::Model;
 
 /// Values in a row, which a contract sees as a list.
@@ -38,6 +39,27 @@ impl<T> Rows<T> {
         ensures { result.now ≡ self.now }
     {
         self.items.as_slice()
+    }
+
+    /// Puts a value behind the others.
+    ///
+    /// `OutOfMemory` where there is no memory for it. The values are then as before.
+    pub fn push(&mut self, value: T) -> Result<(), OutOfMemory>
+    where
+        T: Drop,
+        ensures { self.new ≡ (if is_ok result then self.old ++ value ∷ [] else self.old) }
+    {
+        self.items.push(value)?;
+        Ok(())
+    }
+
+    /// Takes out the value at a place, and the others close up. Takes no memory.
+    pub fn remove(&mut self, place: usize) -> T
+        requires { place < length self.old }
+        ensures value { result ≡ slice_index_or self.old place result }
+        ensures rest { self.new ≡ remove self.old place }
+    {
+        self.items.remove(place)
     }
 
     /// Copies values over those that stand from a place on. Takes no memory.

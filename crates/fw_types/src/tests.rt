@@ -1,4 +1,4 @@
-use crate::{Command, Guid, Handle, OutOfMemory, Reply, Rows, Status, Text};
+use crate::{Command, Guid, Handle, Known, OutOfMemory, Reply, Rows, Status, Text};
 use std::alloc::Global;
 use std::test::Fail;
 
@@ -46,6 +46,40 @@ fn a_guid_turns_its_first_three_fields_in_guest_memory(rt: HostRuntime) -> Resul
     assert_eq!(rt; guid.to_guest(), guest);
     assert!(rt; guid.guid_again() == guid);
     assert_eq!(rt; Guid::guest_form_again(&guest), guest);
+    Ok(())
+}
+
+#[test]
+fn known_protocols_have_their_guids(rt: HostRuntime) -> Result<(), Fail> {
+    let cases: [(Known, &str); 6] = [
+        (Known::DevicePath, "09576e91-6d3f-11d2-8e39-00a0c969723b"),
+        (Known::LoadedImage, "5b1b31a1-9562-11d2-8e3f-00a0c969723b"),
+        (Known::DriverBinding, "18a031ab-b443-4d1a-a5c0-0c09261e9f71"),
+        (Known::PciIo, "4cf5b200-68b8-4ca5-9eec-b23e3f50029a"),
+        (Known::RootBridgeIo, "2f707ebb-4a1a-11d4-9a38-0090273fc14d"),
+        (Known::BusOverride, "3bc1b285-8a15-4a82-aabf-4d7d13fb3265"),
+    ];
+    for (known, wanted) in cases {
+        let guid = Guid::known(known);
+        let text = format!(in rt.alloc(); "{guid}")?;
+        assert_eq!(rt; text.as_str(), wanted);
+    }
+    let guest = [
+        0x00, 0xb2, 0xf5, 0x4c, 0xb8, 0x68, 0xa5, 0x4c, 0x9e, 0xec, 0xb2, 0x3e, 0x3f, 0x50, 0x02,
+        0x9a,
+    ];
+    assert_eq!(rt; Guid::known(Known::PciIo).to_guest(), guest);
+    Ok(())
+}
+
+#[test]
+fn rows_grow_at_the_end_and_close_up(rt: HostRuntime) -> Result<(), Fail> {
+    let mut rows = Rows::of(vec![in rt.alloc(); 3u64, 4]?);
+    rows.push(5)?;
+    assert_eq!(rt; rows.as_slice(), [3u64, 4, 5].as_slice());
+    assert_eq!(rt; rows.as_slice().len(), 3);
+    assert_eq!(rt; rows.remove(1), 4);
+    assert_eq!(rt; rows.as_slice(), [3u64, 5].as_slice());
     Ok(())
 }
 

@@ -1,0 +1,4 @@
+pub mod OnlyOne
+pub mod Order
+pub mod Keeping
+pub mod Changes

@@ -1,0 +1,4 @@
+pub mod Database
+pub mod Installing
+pub mod Removing
+pub mod Places

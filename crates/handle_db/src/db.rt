@@ -1,0 +1,285 @@
+ghost use Rattle.std.specs.Prelude.{◌≡◌, ◌≤◌, ◌<◌, [], true, IfOk, IfErr, OnOk, OnErr, None, Some, Ok, Err, filter, length, remove, slice_index_or, slice_set};
+ghost use Rattle.std.specs.List.{list_all};
+ghost use Rattle.handle_db.specs.Database.{Gives, IsSound, handles_with, has_any, interface_of, is_live, most_interfaces, protocols_of};
+ghost use Rattle.handle_db.specs.Installing.{appended, install_answer, installed};
+ghost use Rattle.handle_db.specs.Removing.{remove_answer, removed};
+ghost use Rattle.handle_db.specs.Places.{IsPlaceOf, removed_at};
+ghost use Rattle.handle_db.specs.declared.entry.Entry.{Entry as EntryValue};
+
+use crate::entry::{Entry, Interface};
+use crate::places::{
+    all_handles, copies_of, entry_of, handles_that_have, has_guid, interface_in, interface_place,
+    place_of, protocols_in,
+};
+use crate::refusal::{DbRefusal, Removed};
+use fw_types::{Guid, Handle, OutOfMemory, Rows};
+use std::alloc::Global;
+use std::marker::Model;
+
+/// The most interfaces of a handle.
+const MOST_INTERFACES: usize = 64;
+
+/// Handle numbers stay below this.
+const NUMBER_END: u64 = 1 << 62;
+
+/// The handles that are live, by rising number, each with its interfaces in order of installation
+/// (UEFI 2.8, 'Protocol Handler Services'). New handles get rising numbers from 1, and a number is not
+/// used again.
+#[derive(Drop)]
+pub struct Db {
+    alloc: Global,
+    handles: Vec<Entry>,
+    next: Handle,
+    limit: u32,
+}
+
+impl Model for Db {
+    ghost use Rattle.handle_db.specs.Database.{Database, IsSound};
+
+    ghost Value = { Database };
+
+    ghost view = { λ inside. record {
+      handles = inside.handles.items;
+      next = inside.next;
+      limit = inside.limit;
+    } };
+
+    ghost invariant = { λ inside. IsSound (record {
+      handles = inside.handles.items;
+      next = inside.next;
+      limit = inside.limit;
+    }) };
+}
+
+impl Db {
+    /// A database without handles, in which at most `limit` handles may be live. Its first handle will
+    /// be handle 1. Takes no memory; `alloc` serves the later calls.
+    pub fn new(alloc: Global, limit: u32) -> Db
+        ensures { result ≡ record { handles = []; next = 1; limit = limit } }
+    {
+        Db {
+            alloc,
+            handles: Vec::new(alloc),
+            next: Handle::firmware(),
+            limit,
+        }
+    }
+
+    /// Installs an interface of a protocol on a handle, behind the interfaces that it has, or on a new
+    /// handle where none is named, and answers the handle. `interface` is an address in guest memory
+    /// and may be 0; `owner` is the image that installs it.
+    ///
+    /// # Errors
+    ///
+    /// In this order: `BadHandle` where the handle that is named is not live; `Already` where it has the
+    /// protocol; `Full` where it has 64 interfaces, and for a new handle where as many handles are live
+    /// as may be or the next handle number is 2^62; `OutOfMemory` where there is no memory. After each
+    /// of them the database is as before.
+    pub fn install(
+        &mut self,
+        handle: Option<Handle>,
+        guid: Guid,
+        interface: u64,
+        owner: Handle,
+    ) -> Result<Handle, DbRefusal>
+        ensures answer { Gives result (install_answer handle guid self.old) }
+        ensures ok { OnOk result (self.new ≡ installed handle (record { guid = guid; interface = interface; owner = owner }) self.old) }
+        ensures err { OnErr result (self.new ≡ self.old) }
+    {
+        let interface = Interface {
+            guid,
+            interface,
+            owner,
+        };
+        match handle {
+            Some(handle) => self.add_interface(handle, interface),
+            None => self.add_handle(interface),
+        }
+    }
+
+    /// Removes a handle's interface of a protocol, and the handle with it where it was the last. Takes
+    /// no memory.
+    ///
+    /// # Errors
+    ///
+    /// `BadHandle` where the handle is not live; else `NotThere` where it does not have the protocol.
+    /// After both the database is as before.
+    pub fn remove(&mut self, handle: Handle, guid: Guid) -> Result<Removed, DbRefusal>
+        ensures answer { result ≡ remove_answer handle guid self.old }
+        ensures ok { OnOk result (self.new ≡ removed handle guid self.old) }
+        ensures err { OnErr result (self.new ≡ self.old) }
+    {
+        let Some(at) = place_of(self.handles.as_slice(), handle.get()) else {
+            return Err(DbRefusal::BadHandle);
+        };
+        let interfaces = self.handles[at].interfaces.as_slice();
+        let Some(place) = interface_place(interfaces, guid) else {
+            return Err(DbRefusal::NotThere);
+        };
+        let gone = interfaces.len() == 1;
+        let interface = take_at(&mut self.handles, at, place);
+        drop_at(&mut self.handles, at);
+        Ok(Removed {
+            interface: interface.interface,
+            owner: interface.owner,
+            place: place as u32,
+            gone,
+        })
+    }
+
+    /// Whether a number is that of a live handle. Takes no memory.
+    pub fn is_live(&self, handle: u64) -> bool
+        ensures { result ≡ is_live handle self.now }
+    {
+        entry_of(self.handles.as_slice(), handle).is_some()
+    }
+
+    /// The address and the owner of a handle's interface of a protocol; `None` exactly where the handle
+    /// is not live or does not have the protocol. Takes no memory.
+    pub fn interface(&self, handle: Handle, guid: Guid) -> Option<(u64, Handle)>
+        ensures { result ≡ interface_of handle guid self.now }
+    {
+        let entry = entry_of(self.handles.as_slice(), handle.get())?;
+        let found = interface_in(entry.interfaces.as_slice(), guid)?;
+        Some((found.interface, found.owner))
+    }
+
+    #[tactic(auto, using(crate::proofs::Changes::few_numbers))]
+    /// The live handles that have a protocol, or all where none is named, by rising number.
+    ///
+    /// # Errors
+    ///
+    /// `OutOfMemory` where there is no memory for the list.
+    pub fn handles_with(&self, guid: Option<Guid>) -> Result<Vec<Handle>, OutOfMemory>
+        ensures handles { IfOk result (λ handles. handles.items ≡ handles_with guid self.now) }
+        ensures few { IfOk result (λ handles. length handles.items ≤ self.now.limit) }
+    {
+        match guid {
+            Some(guid) => handles_that_have(self.alloc, self.handles.as_slice(), guid),
+            None => all_handles(self.alloc, self.handles.as_slice()),
+        }
+    }
+
+    /// The protocols of a handle in order of installation, each with its interface's address and owner.
+    /// None for a handle that is not live, and at most 64.
+    ///
+    /// # Errors
+    ///
+    /// `OutOfMemory` where there is no memory for the list.
+    pub fn protocols_of(&self, handle: Handle) -> Result<Vec<(Guid, u64, Handle)>, OutOfMemory>
+        ensures protocols { IfOk result (λ protocols. protocols.items ≡ protocols_of handle self.now) }
+        ensures few { IfOk result (λ protocols. length protocols.items ≤ most_interfaces) }
+    {
+        match entry_of(self.handles.as_slice(), handle.get()) {
+            Some(entry) => protocols_in(self.alloc, entry.interfaces.as_slice()),
+            None => Ok(Vec::new(self.alloc)),
+        }
+    }
+
+    /// An equal database.
+    ///
+    /// # Errors
+    ///
+    /// `OutOfMemory` where there is no memory for it.
+    pub fn copy(&self) -> Result<Db, OutOfMemory>
+        ensures { IfOk result (λ copy. copy ≡ self.now) }
+    {
+        let handles = copies_of(self.alloc, self.handles.as_slice())?;
+        Ok(Db {
+            alloc: self.alloc,
+            handles,
+            next: self.next,
+            limit: self.limit,
+        })
+    }
+
+    /// What holds of every database: handle numbers rise and stay below the next one, each handle has
+    /// an interface and no protocol twice, and the limits are kept.
+    pub fn soundness(&self)
+        ensures { IsSound self.now }
+    {
+        let _handles = &self.handles;
+    }
+
+    fn add_handle(&mut self, interface: Interface) -> Result<Handle, DbRefusal>
+        ensures answer { Gives result (install_answer None interface.guid self.old) }
+        ensures ok { OnOk result (self.new ≡ installed None interface self.old) }
+        ensures err { OnErr result (self.new ≡ self.old) }
+    {
+        if self.handles.len() >= self.limit as usize || self.next.get() >= NUMBER_END {
+            return Err(DbRefusal::Full);
+        }
+        let handle = self.next;
+        let mut interfaces = Rows::of(Vec::new(self.alloc));
+        interfaces.push(interface)?;
+        self.handles.push(Entry { handle, interfaces })?;
+        self.next = handle.next();
+        Ok(handle)
+    }
+
+    fn add_interface(&mut self, handle: Handle, interface: Interface) -> Result<Handle, DbRefusal>
+        ensures answer { Gives result (install_answer (Some handle) interface.guid self.old) }
+        ensures ok { OnOk result (self.new ≡ installed (Some handle) interface self.old) }
+        ensures err { OnErr result (self.new ≡ self.old) }
+    {
+        let place = self.room_at(handle, interface.guid)?;
+        append_at(&mut self.handles, place, interface)?;
+        Ok(handle)
+    }
+
+    /// Where a handle stands that may have one more interface, of this protocol.
+    fn room_at(&self, handle: Handle, guid: Guid) -> Result<usize, DbRefusal>
+        ensures refused { IfErr result (λ refusal. install_answer (Some handle) guid self.now ≡ Err refusal) }
+        ensures accepted { OnOk result (install_answer (Some handle) guid self.now ≡ Ok handle) }
+        ensures place { IfOk result (IsPlaceOf handle self.now.handles) }
+    {
+        let Some(place) = place_of(self.handles.as_slice(), handle.get()) else {
+            return Err(DbRefusal::BadHandle);
+        };
+        let interfaces = self.handles[place].interfaces.as_slice();
+        if has_guid(interfaces, guid) {
+            return Err(DbRefusal::Already);
+        }
+        if interfaces.len() >= MOST_INTERFACES {
+            return Err(DbRefusal::Full);
+        }
+        Ok(place)
+    }
+}
+
+/// Puts an interface behind those of the handle at a place.
+fn append_at(
+    entries: &mut Vec<Entry>,
+    place: usize,
+    interface: Interface,
+) -> Result<(), OutOfMemory>
+    requires { place < length entries.old.items }
+    ensures ok { (other : EntryValue) → OnOk result (entries.new.items
+        ≡ slice_set entries.old.items place (appended interface (slice_index_or entries.old.items place other))) }
+    ensures err { OnErr result (entries.new.items ≡ entries.old.items) }
+{
+    let entry = &mut entries[place];
+    entry.interfaces.push(interface)
+}
+
+/// Takes out the interface at a place of the handle at a place.
+fn take_at(entries: &mut Vec<Entry>, at: usize, place: usize) -> Interface
+    requires handle { at < length entries.old.items }
+    requires interface { (other : EntryValue) → place < length (slice_index_or entries.old.items at other).interfaces }
+    ensures taken { (other : EntryValue) → result ≡ slice_index_or (slice_index_or entries.old.items at other).interfaces place result }
+    ensures rest { (other : EntryValue) → entries.new.items ≡ slice_set entries.old.items at (removed_at place (slice_index_or entries.old.items at other)) }
+{
+    let entry = &mut entries[at];
+    entry.interfaces.remove(place)
+}
+
+/// Takes out the handle at a place where it has no interface, and all others have one.
+fn drop_at(entries: &mut Vec<Entry>, at: usize)
+    requires within { at < length entries.old.items }
+    requires others { list_all has_any (remove entries.old.items at) ≡ true }
+    ensures { entries.new.items ≡ filter has_any entries.old.items }
+{
+    if entries[at].interfaces.as_slice().is_empty() {
+        entries.remove(at);
+    }
+}

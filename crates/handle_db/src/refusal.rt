@@ -1,0 +1,55 @@
+ghost use Rattle.std.specs.Prelude.{◌≡◌};
+ghost use Rattle.handle_db.specs.declared.refusal.DbRefusal.TheVariants.{OutOfMemory as NoMemory};
+
+use fw_types::{Handle, OutOfMemory};
+use std::alloc::AllocFailed;
+use thiserror::Error;
+
+/// Why an interface was not installed or removed.
+#[derive(Clone, Copy, Debug, PartialEq, Eq, Error)]
+pub enum DbRefusal {
+    /// The handle is not live.
+    #[error("the handle is not live")]
+    BadHandle,
+    /// The handle has the protocol.
+    #[error("the handle has the protocol")]
+    Already,
+    /// A limit on handles, on handle numbers or on the interfaces of a handle is met.
+    #[error("a limit of the handle database is met")]
+    Full,
+    /// The handle does not have the protocol.
+    #[error("the handle does not have the protocol")]
+    NotThere,
+    /// There was no memory.
+    #[error("out of memory")]
+    OutOfMemory,
+}
+
+impl From<OutOfMemory> for DbRefusal {
+    ghost from_gives = { λ _ refusal. refusal ≡ NoMemory };
+
+    fn from(_error: OutOfMemory) -> DbRefusal {
+        DbRefusal::OutOfMemory
+    }
+}
+
+impl<T: Drop> From<AllocFailed<T>> for DbRefusal {
+    ghost from_gives = { λ _ refusal. refusal ≡ NoMemory };
+
+    fn from(_error: AllocFailed<T>) -> DbRefusal {
+        DbRefusal::OutOfMemory
+    }
+}
+
+/// An interface that was removed.
+#[derive(Clone, Copy, Debug, PartialEq, Eq)]
+pub struct Removed {
+    /// Its address.
+    pub interface: u64,
+    /// The handle of the image that had installed it.
+    pub owner: Handle,
+    /// Its place among the interfaces of its handle, from 0.
+    pub place: u32,
+    /// Whether it was the handle's last, so that the handle is no longer live.
+    pub gone: bool,
+}
