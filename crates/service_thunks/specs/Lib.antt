@@ -1,0 +1,4 @@
+pub mod Services
+pub mod Tables
+pub mod Arguments
+pub mod Placed

@@ -1,0 +1,13 @@
+//! Laws of the table of addresses.
+
+ghost use Rattle.service_thunks.specs.Services.{OneAddress, ServiceAddresses};
+
+/// A service that this firmware has stands at one address.
+pub fn one_address()
+    ensures { OneAddress }
+{}
+
+/// A service stands at each entry of the two tables, and nowhere else.
+pub fn service_addresses()
+    ensures { ServiceAddresses }
+{}
