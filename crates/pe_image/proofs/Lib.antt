@@ -1,1 +1,6 @@
-pub mod Made
+pub mod NumberLemmas
+pub mod BlockLemmas
+pub mod SectionLemmas
+pub mod AcceptedLemmas
+pub mod PlacedLemmas
+pub mod LaidLemmas

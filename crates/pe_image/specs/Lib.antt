@@ -1,4 +1,4 @@
-pub mod MadeImage
+pub mod Headers
+pub mod Relocations
 pub mod ImageRules
 pub mod LaidImage
-pub mod Frame

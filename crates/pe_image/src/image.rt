@@ -1,21 +1,15 @@
-ghost use Rattle.std.specs.Prelude.{◌≡◌, ◌<◌, ◌≤◌, ◌%◌, ◌+◌, ◌-◌, ◌^◌, ◌↔◌, ℕ, length, replicate, IfOk, IsOk, IsTrue};
+ghost use Rattle.std.specs.Prelude.{◌≡◌, ◌⊎◌, ◌<◌, ◌≤◌, ◌%◌, length, IfOk, IfSome};
 ghost use Rattle.std.specs.Result.{result_err};
-ghost use Rattle.std.specs.Bool.{Decides};
-ghost use Rattle.pe_image.specs.ImageRules.{IsMade, code_end_of, entry_of, long_at, refusal_of, size_of, subsystem_of};
-ghost use Rattle.pe_image.specs.Frame.{IsFramed, NamesCode};
+ghost use Rattle.pe_image.specs.ImageRules.{code_end_of, entry_of, refusal_of, size_of, subsystem_of};
 ghost use Rattle.pe_image.specs.LaidImage.{laid};
 
-use crate::header::{HEADERS, aligned_size, made_headers};
-use byteorder::{ByteOrder, LittleEndian};
+use crate::fields;
+use crate::laying::{plain_image, relocate};
+use crate::rules::refusal;
+use crate::sections::section_with;
 use fw_types::{OutOfMemory, PeRefusal};
 use std::alloc::Global;
 use std::marker::Model;
-
-/// The longest file, 16 MiB.
-const LONGEST: usize = 0x0100_0000;
-
-/// The subsystem of EFI boot service drivers.
-const BOOT_SERVICE_DRIVER: u16 = 11;
 
 /// A file that was accepted. Contracts see its bytes.
 #[derive(Debug, Drop)]
@@ -35,122 +29,100 @@ impl<'a> Model for PeView<'a> {
     ghost invariant = { λ view. refusal_of view.bytes.now ≡ None };
 }
 
-/// Whether a file is an image that is loaded: for now exactly the images that the image writer makes of
-/// some code with subsystem 11, an even entry in the code, and no relocations. Takes no memory.
+/// Whether a file is an EBC driver that is loaded: a PE32+ image for the machine EBC (PE/COFF). Takes no
+/// memory.
 ///
 /// # Errors
 ///
-/// `NotBuilt` for every other file.
+/// The first of these that applies:
+///
+/// 1. `Short`: fewer than 64 bytes.
+/// 2. `NoMz`: the first two bytes are not `MZ`.
+/// 3. `NoPe`: the PE signature, whose place is the u32 at 0x3C, is not there, or fewer than 20 bytes
+///    stand behind it.
+/// 4. `Machine`: the machine is not 0x0EBC.
+/// 5. `Magic`: the optional header has fewer than 112 bytes, passes the file's end, or does not begin
+///    with 0x20B.
+/// 6. `Subsystem`: it is neither 11 nor 12.
+/// 7. `Stripped`: bit 0 of the characteristics is set.
+/// 8. `Size`: the size of image is 0 or over 16 MiB.
+/// 9. `Headers`: the size of headers is over the size of image or the file's length, or there are more
+///    than 96 sections, or the section table passes the size of headers.
+/// 10. `Section`: a section begins in front of the end of the former section, or of the headers, or it
+///     passes the size of image, or its bytes in the file pass the file's end. A section has its virtual
+///     size in the image, or its raw size where that is 0; the smaller of the two is copied from the file.
+/// 11. `Reloc`: there is a relocation directory, and it lies in the copied part of no section, or a block
+///     has fewer than 8 bytes left, or a size that is below 8, odd or past the directory's end, or an
+///     entry has another type than 0, 3 or 10, or the bytes that it changes pass the size of image.
+/// 12. `Entry`: the entry point is odd, or not below the size of image.
 pub fn check(bytes: &[u8]) -> Result<PeView<'_>, PeRefusal>
-    ensures made { IsOk result ↔ IsMade bytes.now }
     ensures refused { result_err result ≡ refusal_of bytes.now }
     ensures view { IfOk result (λ view. view ≡ bytes.now) }
 {
-    if is_made(bytes) {
-        Ok(PeView { bytes })
-    } else {
-        Err(PeRefusal::NotBuilt)
+    match refusal(bytes) {
+        Some(kind) => Err(kind),
+        None => Ok(PeView { bytes }),
     }
 }
 
 impl<'a> PeView<'a> {
-    /// The size of the image once it is laid, in bytes.
+    /// The size of the image once it is laid, in bytes: from 1 to 16 MiB (PE/COFF: Optional Header
+    /// Windows-Specific Fields).
     pub fn size(&self) -> u32
         ensures value { result ≡ size_of self.now }
         ensures some { 1 ≤ result }
         ensures at_most { result ≤ 16777216 }
     {
-        self.bytes.len() as u32
+        fields::size_of_image(self.bytes)
     }
 
-    /// The place in the laid image where the driver is entered.
+    /// The place in the laid image where the driver is entered (PE/COFF: Optional Header Standard
+    /// Fields).
     pub fn entry(&self) -> u32
         ensures value { result ≡ entry_of self.now }
         ensures even { result % 2 ≡ 0 }
         ensures inside { result < size_of self.now }
     {
-        long_at(self.bytes, 0x68)
+        fields::entry(self.bytes)
     }
 
-    #[tactic(auto, unfolding(crate::specs::ImageRules::subsystem_of))]
-    /// The subsystem: 11, an EFI boot service driver.
+    /// The subsystem: 11 for an EFI boot service driver, 12 for an EFI runtime driver (PE/COFF: Windows
+    /// Subsystem).
     pub fn subsystem(&self) -> u16
-        ensures { result ≡ subsystem_of self.now }
+        ensures value { result ≡ subsystem_of self.now }
+        ensures driver { (result ≡ 11) ⊎ (result ≡ 12) }
     {
-        BOOT_SERVICE_DRIVER
+        fields::subsystem(self.bytes)
     }
 
-    /// The end in the laid image of the section that holds the entry; `None` where no section does.
+    /// The end in the laid image of the section that has the entry point; `None` where no section has
+    /// it (PE/COFF: Section Table).
     pub fn code_end(&self) -> Option<u32>
-        ensures { result ≡ code_end_of self.now }
+        ensures value { result ≡ code_end_of self.now }
+        ensures behind_entry { IfSome result (λ end. entry_of self.now < end) }
+        ensures inside { IfSome result (λ end. end ≤ size_of self.now) }
     {
-        Some(512 + long_at(self.bytes, 0x100))
+        match section_with(self.bytes, fields::entry(self.bytes)) {
+            Some(section) => Some(section.end() as u32),
+            None => None,
+        }
     }
 }
 
-/// The bytes of an image that is laid at the address `base`.
+/// The bytes of an image that is laid at the address `base`: the headers and each section in its place,
+/// and zeros elsewhere, with the relocations of the file applied in its order (PE/COFF: Section Table,
+/// The .reloc Section).
 ///
 /// # Errors
 ///
 /// `OutOfMemory` where there is no memory for them.
-#[tactic(auto, unfolding(crate::specs::LaidImage::laid, crate::specs::ImageRules::size_of))]
+#[tactic(auto, unfolding(crate::specs::LaidImage::laid))]
 pub fn lay(alloc: Global, view: &PeView<'_>, base: u64) -> Result<Vec<u8>, OutOfMemory>
-    ensures bytes { IfOk result (λ laid_bytes. laid_bytes.items ≡ laid view.now base) }
-    ensures size { IfOk result (λ laid_bytes. length laid_bytes.items ≡ size_of view.now) }
+    ensures bytes { IfOk result (λ image. image.items ≡ laid view.now base) }
+    ensures size { IfOk result (λ image. length image.items ≡ size_of view.now) }
 {
-    Ok(Vec::from_slice(alloc, view.bytes)?)
-}
-
-fn is_made(bytes: &[u8]) -> bool
-    ensures { Decides result (IsMade bytes.now) }
-{
-    if bytes.len() < HEADERS || bytes.len() > LONGEST {
-        return false;
-    }
-    let size = long_at(bytes, 0x100);
-    let entry = long_at(bytes, 0x68);
-    names_code(size, entry, bytes.len() - HEADERS) && is_made_of(bytes, size, entry - 512)
-}
-
-/// The number in the 4 bytes from the place `at` on, the lowest first.
-fn long_at(bytes: &[u8], at: usize) -> u32
-    requires { at + 4 ≤ length bytes.now }
-    ensures { result ≡ long_at at bytes.now }
-{
-    LittleEndian::read_u32(&bytes[at..])
-}
-
-/// Whether a section of `room` bytes is one of `size` bytes of code with its entry at `entry - 512`.
-fn names_code(size: u32, entry: u32, room: usize) -> bool
-    requires { room ≤ 16777216 }
-    ensures { IsTrue result ↔ NamesCode size entry room }
-{
-    size <= LONGEST as u32
-        && aligned_size(size) as usize == room
-        && entry >= 512
-        && entry % 2 == 0
-        && entry - 512 < size
-}
-
-/// Whether the bytes around the code are those of a made image.
-fn is_made_of(bytes: &[u8], size: u32, entry: u32) -> bool
-    requires sized { size ≤ 2 ^ 24 }
-    requires entered { entry ≤ 2 ^ 24 }
-    requires room { 512 + size ≤ length bytes.now }
-    ensures { Decides result (IsFramed bytes.now size entry) }
-{
-    let headers = made_headers(size, entry, BOOT_SERVICE_DRIVER);
-    is_same(&bytes[..HEADERS], &headers) && is_zeros(&bytes[HEADERS + size as usize..])
-}
-
-fn is_same(bytes: &[u8], others: &[u8]) -> bool
-    ensures { Decides result (bytes.now ≡ others.now) }
-{
-    bytes == others
-}
-
-fn is_zeros(bytes: &[u8]) -> bool
-    ensures { Decides result (bytes.now ≡ replicate (length bytes.now) 0) }
-{
-    bytes.iter().all(|b| *b == 0)
+    let mut image = plain_image(alloc, view.bytes)?;
+    let delta = base.wrapping_sub(fields::image_base(view.bytes));
+    relocate(image.as_mut_slice(), view.bytes, delta);
+    Ok(image)
 }

@@ -2,10 +2,25 @@
 //!
 //! `check` accepts a file or says why not, and takes no memory. The view that it gives answers what
 //! the headers say, and `lay` makes the bytes that stand in memory at a base address.
+//!
+//! - `numbers`: numbers at places of a file.
+//! - `fields`: the fields of the headers.
+//! - `sections`: the section table.
+//! - `relocations`: the relocation directory, its blocks and their entries.
+//! - `rules`: the twelve rules of an accepted file.
+//! - `laying`: the image in memory.
+//! - `image`: what the crate exports.
+//! - `laws`: what holds of blocks and of sections.
 #![tactic(auto)]
 
-mod header;
+mod fields;
 mod image;
+pub mod laws;
+mod laying;
+mod numbers;
+mod relocations;
+mod rules;
+mod sections;
 
 pub use image::{PeView, check, lay};
 

@@ -1,16 +1,19 @@
 -- The driver-model machine: what each command gives, and the replies to a script.
-use Rattle.std.specs.Prelude.{ℕ, ◌-◌, List, [], ◌∷◌, None, Option, Some, Result, Ok, Err}
+use Rattle.std.specs.Prelude.{ℕ, ◌-◌, List, [], ◌∷◌, None, Option, Some, Result, Ok, Err, if◌then◌else◌}
 use Rattle.fw_types.specs.declared.status.Status.{Status}
 use Rattle.fw_types.specs.declared.command.Command.{Command}
 use Rattle.fw_types.specs.declared.command.Command.TheVariants as command
 use Rattle.fw_types.specs.declared.image.ImageNote.{ImageNote}
+use Rattle.fw_types.specs.declared.image.RomEnd.{RomEnd}
 use Rattle.fw_types.specs.declared.reply.Reply.{Reply}
 use Rattle.fw_shelf.specs.Shelf.{Files, file_of}
 use Rattle.fw_shelf.specs.declared.shelf.ShelfFault.{ShelfFault}
+use Rattle.option_rom.specs.RomGrammar.{rom_in}
 use Rattle.replay_shell.specs.declared.machine.Machine.{Machine}
 use Rattle.replay_shell.specs.declared.machine.Ending.{Ending}
 use Rattle.replay_shell.specs.World.{State, begin_command, first_image, without_events}
 use Rattle.replay_shell.specs.ImageLife.{Load, load_error, loaded, not_found}
+use Rattle.replay_shell.specs.RomLoad.{Tried, is_rom, none_tried, rom_status, with_images}
 use Rattle.replay_shell.specs.Report.{reply_text}
 
 -- the units of each command
@@ -27,25 +30,37 @@ opening = record {
 abbrev pub booted : Machine
 booted = record { world = opening }
 
--- what a command came to: notes on its images, its status, and the world then
+-- what a command came to: notes on its images, how the option ROM ended that it loaded, its status, and
+-- the world then
 pub record Done : Type 0 where
   pub images : List ImageNote
+  pub rom : Option RomEnd
   pub status : Status
   pub world : State
 
 -- what the code tells of a command, with the world behind it
 abbrev pub came_of : Ending → State → Done
-came_of ending w = record { images = ending.images.items; status = ending.status; world = w }
+came_of ending w = record { images = ending.images.items; rom = ending.rom; status = ending.status; world = w }
 
 -- a file of one image was loaded
 abbrev pub noted : Load → Done
-noted load = record { images = load.note ∷ []; status = load.status; world = load.world }
+noted load = record { images = load.note ∷ []; rom = None; status = load.status; world = load.world }
+
+-- the images of an option ROM were tried
+abbrev pub rom_noted : Tried → RomEnd → Done
+rom_noted tried end = record { images = tried.notes; rom = Some end; status = rom_status tried; world = tried.world }
+
+-- a load of a file: an option ROM, or one image
+abbrev pub file_done : List ℕ → State → Done
+file_done file w =
+    if is_rom file then rom_noted (with_images (rom_in file).images (none_tried w)) (rom_in file).end
+    else noted (loaded file w)
 
 -- a load of what stands under a name: a file, nothing, or a file that is too long
 abbrev pub load_done : Result (Option (List ℕ)) ShelfFault → State → Done
-load_done (Ok None) w = record { images = []; status = not_found; world = w }
-load_done (Ok (Some file)) w = noted (loaded file w)
-load_done (Err fault) w = record { images = []; status = load_error; world = w }
+load_done (Ok None) w = record { images = []; rom = None; status = not_found; world = w }
+load_done (Ok (Some file)) w = file_done file w
+load_done (Err fault) w = record { images = []; rom = None; status = load_error; world = w }
 
 -- the reply tells the units that were spent, and takes the events away
 abbrev pub replied : Done → Reply × Machine
@@ -55,7 +70,7 @@ replied done = (
     units = command_budget - done.world.hard.units;
     events = done.world.hard.events;
     images = done.images;
-    rom = None;
+    rom = done.rom;
     dump = [];
   },
   record { world = without_events done.world },

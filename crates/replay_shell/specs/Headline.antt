@@ -1,14 +1,20 @@
 -- What the program answers to its words over the files that a shelf holds: a status and the whole
 -- text that it writes.
-use Rattle.std.specs.Prelude.{◌≡◌, ℕ, List, [], ◌∷◌, Bool, true, false, ◌||◌, Option, Some, None, Result, Ok, Err, bytes_eq, codes, map, nat_eq, slice_get, take, String, string_bytes, ◌⊎◌, if◌then◌else◌}
+use Rattle.std.specs.Prelude.{◌≡◌, ℕ, List, [], ◌∷◌, Bool, true, false, ◌||◌, Option, Some, None, Result, Ok, Err, bytes_eq, codes, map, nat_eq, slice_get, slice_range, take, String, string_bytes, ◌⊎◌, if◌then◌else◌}
 use Rattle.std.specs.List.{concat}
 use Rattle.std.specs.Option.{option_map_or}
 use Rattle.std.specs.declared.alloc.Global.{Global}
 use Rattle.fw_types.specs.declared.command.Command.{Command}
 use Rattle.fw_types.specs.declared.command.Command.TheVariants.{Load}
+use Rattle.fw_types.specs.declared.image.PeRefusal.{PeRefusal}
 use Rattle.fw_shelf.specs.Shelf.{Files, file_of}
 use Rattle.fw_shelf.specs.Sink.{with_bytes, TakesPrefix}
 use Rattle.fw_shelf.specs.declared.shelf.ShelfFault.{ShelfFault}
+use Rattle.pe_image.specs.ImageRules.{code_end_of, entry_of, refusal_of}
+use Rattle.pe_image.specs.LaidImage.{laid}
+use Rattle.ebc_asm.specs.Listing.{listing}
+use Rattle.replay_shell.specs.declared.respond.Form.{Form as AskedForm}
+use Rattle.replay_shell.specs.declared.respond.Form.TheVariants.{Run, Disasm}
 use Rattle.replay_shell.specs.declared.replay.Stop.{Stop}
 use Rattle.replay_shell.specs.declared.replay.Stop.TheVariants.{Shelf, Sink, Memory}
 use Rattle.replay_shell.specs.declared.script.Script.{Script}
@@ -16,7 +22,7 @@ use Rattle.replay_shell.specs.declared.script.ScriptFault.{ScriptFault}
 use Rattle.replay_shell.specs.declared.script.ScriptFault.TheVariants.{Refused, OutOfMemory}
 use Rattle.replay_shell.specs.ScriptGrammar.{script_of}
 use Rattle.replay_shell.specs.DriverModel.{booted, texts}
-use Rattle.replay_shell.specs.OtherTexts.{absent_line, refused_line, too_long_line, usage_line}
+use Rattle.replay_shell.specs.OtherTexts.{absent_line, refused_image_line, refused_line, too_long_line, usage_line}
 
 -- The words.
 
@@ -24,14 +30,27 @@ use Rattle.replay_shell.specs.OtherTexts.{absent_line, refused_line, too_long_li
 abbrev pub words_in : List (String Global) → List (List ℕ)
 words_in words = map string_bytes words
 
--- what the words ask for: the report of a script
+-- what the words ask for: the report of a script, or the listing of an image
 pub data Form : Type 0 where
   run : List ℕ → Form
+  disasm : List ℕ → Form
+
+-- what the code's form asks for
+abbrev pub asked : AskedForm → Form
+asked (Run name) = run name.now
+asked (Disasm name) = disasm name.now
+
+-- the form of a verb and a name
+abbrev pub form_told : List ℕ → List ℕ → Option Form
+form_told verb name =
+    if bytes_eq verb (codes "run") then Some (run name)
+    else if bytes_eq verb (codes "disasm") then Some (disasm name)
+    else None
 
 abbrev pub form_of : List (List ℕ) → Option Form
 form_of [] = None
 form_of (verb ∷ []) = None
-form_of (verb ∷ name ∷ []) = if bytes_eq verb (codes "run") then Some (run name) else None
+form_of (verb ∷ name ∷ []) = form_told verb name
 form_of (verb ∷ name ∷ other ∷ others) = None
 
 -- The answer.
@@ -56,15 +75,36 @@ file_answer files (Ok None) = answer 6 absent_line
 file_answer files (Ok (Some bytes)) = script_answer files (script_of bytes)
 file_answer files (Err fault) = answer 7 too_long_line
 
+-- The code of an image that is laid at 0: from its entry to the end of the section that holds it,
+-- and none where no section does.
+abbrev pub code_listing_to : Option ℕ → List ℕ → List ℕ
+code_listing_to None file = []
+code_listing_to (Some end) file = listing (slice_range (laid file 0) (entry_of file) end) (entry_of file)
+
+abbrev pub code_listing : List ℕ → List ℕ
+code_listing file = code_listing_to (code_end_of file) file
+
+-- the listing of an image, or the line that tells why it is refused
+abbrev pub image_answer : Option PeRefusal → List ℕ → Answer
+image_answer None file = answer 0 (code_listing file)
+image_answer (Some refusal) file = answer 8 (refused_image_line refusal)
+
+-- the image is absent, there, or too long
+abbrev pub listed_answer : Result (Option (List ℕ)) ShelfFault → Answer
+listed_answer (Ok None) = answer 6 absent_line
+listed_answer (Ok (Some file)) = image_answer (refusal_of file) file
+listed_answer (Err fault) = answer 7 too_long_line
+
 abbrev pub form_answer : Files → Option Form → Answer
 form_answer files None = answer 1 usage_line
 form_answer files (Some (run name)) = file_answer files (file_of files name)
+form_answer files (Some (disasm name)) = listed_answer (file_of files name)
 
 -- the answer to words over these files
 abbrev pub answer_of : Files → List (List ℕ) → Answer
 answer_of files words = form_answer files (form_of words)
 
--- The commands that the words ask for: those of the script, and none where there is no script.
+-- The commands that the words ask for: those of the script, and none where no script is run.
 
 abbrev pub script_commands : Result Script ScriptFault → List Command
 script_commands (Ok script) = script.commands
@@ -78,6 +118,7 @@ file_commands (Err fault) = []
 abbrev pub form_commands : Files → Option Form → List Command
 form_commands files None = []
 form_commands files (Some (run name)) = file_commands (file_of files name)
+form_commands files (Some (disasm name)) = []
 
 abbrev pub commands_for : Files → List (List ℕ) → List Command
 commands_for files words = form_commands files (form_of words)

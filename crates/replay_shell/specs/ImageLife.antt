@@ -47,9 +47,20 @@ came_of loading w = record { note = loading.note; status = loading.status; world
 abbrev pub failed : Status → State → Load
 failed status w = record { note = Failed status; status = status; world = w }
 
--- the status of an image that is refused
+-- the status of an image that is refused: UNSUPPORTED where it is of another kind, else LOAD_ERROR
 abbrev pub refusal_status : PeRefusal → Status
-refusal_status refusal.NotBuilt = unsupported
+refusal_status refusal.Short = load_error
+refusal_status refusal.NoMz = load_error
+refusal_status refusal.NoPe = load_error
+refusal_status refusal.Machine = unsupported
+refusal_status refusal.Magic = unsupported
+refusal_status refusal.Subsystem = unsupported
+refusal_status refusal.Stripped = load_error
+refusal_status refusal.Size = load_error
+refusal_status refusal.Headers = load_error
+refusal_status refusal.Section = load_error
+refusal_status refusal.Reloc = load_error
+refusal_status refusal.Entry = load_error
 
 -- laying an image costs a unit for each 64 bytes of its size, rounded up
 abbrev pub laying_price : List ℕ → ℕ

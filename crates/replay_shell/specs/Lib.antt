@@ -4,6 +4,7 @@ pub mod World
 pub mod GuestRun
 pub mod DriverCall
 pub mod ImageLife
+pub mod RomLoad
 pub mod DriverModel
 pub mod OtherTexts
 pub mod Headline

@@ -1,9 +1,10 @@
 -- What the program writes beside a report: one line each.
 use Rattle.std.specs.Prelude.{ℕ, List, [], ◌∷◌, ◌++◌, codes}
 use Rattle.std.specs.Fmt.{decimal}
+use Rattle.fw_types.specs.declared.image.PeRefusal.{PeRefusal}
 use Rattle.replay_shell.specs.declared.script.ScriptKind.{ScriptKind}
 use Rattle.replay_shell.specs.declared.script.ScriptKind.TheVariants.{TooLong, NotAscii, NotBuilt}
-use Rattle.replay_shell.specs.Report.{line}
+use Rattle.replay_shell.specs.Report.{line, refusal_word}
 
 -- words of none of the program's forms
 abbrev pub usage_line : List ℕ
@@ -25,3 +26,7 @@ kind_word NotBuilt = codes "NotBuilt"
 -- a line of the script is refused
 abbrev pub refused_line : ℕ → ScriptKind → List ℕ
 refused_line number kind = line (codes "script" ∷ decimal number ∷ kind_word kind ∷ [])
+
+-- an image is refused
+abbrev pub refused_image_line : PeRefusal → List ℕ
+refused_image_line refusal = line (codes "image" ∷ refusal_word refusal ∷ [])

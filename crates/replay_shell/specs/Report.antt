@@ -20,7 +20,7 @@ use Rattle.fw_types.specs.declared.image.PeRefusal.TheVariants as refusal
 use Rattle.fw_types.specs.declared.image.RomEnd.{RomEnd}
 use Rattle.fw_types.specs.declared.image.RomEnd.TheVariants.{Done, BadSignature, BadPcir, LengthZero, PastEnd}
 use Rattle.fw_types.specs.declared.image.ImageNote.{ImageNote}
-use Rattle.fw_types.specs.declared.image.ImageNote.TheVariants.{Loaded, Failed, Refused}
+use Rattle.fw_types.specs.declared.image.ImageNote.TheVariants.{Loaded, Failed, Refused, Compressed, Skipped}
 use Rattle.fw_types.specs.declared.dump.DumpLine.{DumpLine}
 use Rattle.fw_types.specs.declared.dump.DumpLine.TheVariants.{Handle, Proto, Entry}
 use Rattle.fw_types.specs.declared.reply.Reply.{Reply}
@@ -61,7 +61,18 @@ abbrev pub kind_word : EventKind → List ℕ
 kind_word kind.Entry = codes "entry"
 
 abbrev pub refusal_word : PeRefusal → List ℕ
-refusal_word refusal.NotBuilt = codes "NotBuilt"
+refusal_word refusal.Short = codes "Short"
+refusal_word refusal.NoMz = codes "NoMz"
+refusal_word refusal.NoPe = codes "NoPe"
+refusal_word refusal.Machine = codes "Machine"
+refusal_word refusal.Magic = codes "Magic"
+refusal_word refusal.Subsystem = codes "Subsystem"
+refusal_word refusal.Stripped = codes "Stripped"
+refusal_word refusal.Size = codes "Size"
+refusal_word refusal.Headers = codes "Headers"
+refusal_word refusal.Section = codes "Section"
+refusal_word refusal.Reloc = codes "Reloc"
+refusal_word refusal.Entry = codes "Entry"
 
 abbrev pub end_word : RomEnd → List ℕ
 end_word Done = codes "Done"
@@ -85,6 +96,8 @@ abbrev pub note_words : ImageNote → List (List ℕ)
 note_words (Loaded handle) = codes "handle" ∷ decimal handle ∷ []
 note_words (Failed status) = status_word status ∷ []
 note_words (Refused refusal) = codes "refused" ∷ refusal_word refusal ∷ []
+note_words Compressed = codes "compressed" ∷ []
+note_words Skipped = codes "skipped" ∷ []
 
 -- images count from 1
 abbrev pub image_lines : ℕ → List ImageNote → List ℕ

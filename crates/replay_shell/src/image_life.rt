@@ -30,7 +30,8 @@ fn status_of(refusal: PeRefusal) -> Status
     ensures { result ≡ refusal_status refusal }
 {
     match refusal {
-        PeRefusal::NotBuilt => Status::UNSUPPORTED,
+        PeRefusal::Machine | PeRefusal::Magic | PeRefusal::Subsystem => Status::UNSUPPORTED,
+        _ => Status::LOAD_ERROR,
     }
 }
 

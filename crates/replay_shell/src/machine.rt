@@ -1,15 +1,18 @@
-ghost use Rattle.std.specs.Prelude.{◌≡◌, ◌≤◌, ◌*◌, [], ◌∷◌, Some, IfErr, IfOk, IsErrOf, OnOk, length};
+ghost use Rattle.std.specs.Prelude.{◌≡◌, ◌≤◌, ◌*◌, [], ◌∷◌, None, Some, IfErr, IfOk, IsErrOf, OnOk, length};
 ghost use Rattle.fw_shelf.specs.Faults.{Rose};
 ghost use Rattle.fw_shelf.specs.Shelf.{Files, file_of};
 ghost use Rattle.replay_shell.specs.declared.machine.ExecFault.TheVariants.{OutOfMemory as NoMemory};
 ghost use Rattle.replay_shell.specs.World.{Spends};
 ghost use Rattle.replay_shell.specs.ImageLife.{loaded};
-ghost use Rattle.replay_shell.specs.DriverModel.{booted, came_of, command_budget, exec, load_done, noted, replied};
+ghost use Rattle.option_rom.specs.RomGrammar.{rom_in};
+ghost use Rattle.replay_shell.specs.RomLoad.{none_tried, with_images};
+ghost use Rattle.replay_shell.specs.DriverModel.{booted, came_of, command_budget, exec, file_done, load_done, noted, replied, rom_noted};
 
 use crate::image_life::load_image;
+use crate::rom_load::{is_rom, load_images};
 use crate::world::World;
 use fw_shelf::{Shelf, ShelfFault};
-use fw_types::{Command, ImageNote, OutOfMemory, Reply, Rows, Status};
+use fw_types::{Command, ImageNote, OutOfMemory, Reply, RomEnd, Rows, Status};
 use std::alloc::Global;
 use thiserror::Error;
 
@@ -42,35 +45,73 @@ impl From<OutOfMemory> for ExecFault {
     }
 }
 
-/// What a command came to: notes on its images, and its status.
+/// What a command came to: notes on its images, how the option ROM ended that it loaded, and its
+/// status.
 #[derive(Debug, Drop)]
 pub struct Ending {
     pub images: Vec<ImageNote>,
+    pub rom: Option<RomEnd>,
     pub status: Status,
 }
 
 /// An ending in which no image was tried.
 fn without_image(alloc: Global, status: Status) -> Ending
-    ensures { (result.images.items ≡ []) × (result.status ≡ status) }
+    ensures { (result.images.items ≡ []) × (result.rom ≡ None) × (result.status ≡ status) }
 {
     Ending {
         images: Vec::new(alloc),
+        rom: None,
         status,
     }
 }
 
 /// An ending with a note on one image.
 fn with_note(alloc: Global, note: ImageNote, status: Status) -> Result<Ending, OutOfMemory>
-    ensures { IfOk result
-        (λ ending. (ending.images.items ≡ note ∷ []) × (ending.status ≡ status)) }
+    ensures { IfOk result (λ ending.
+        (ending.images.items ≡ note ∷ []) × (ending.rom ≡ None) × (ending.status ≡ status)) }
 {
     let mut images = Vec::new(alloc);
     images.push(note)?;
-    Ok(Ending { images, status })
+    Ok(Ending {
+        images,
+        rom: None,
+        status,
+    })
+}
+
+/// Loads what a file is: the images of an option ROM, or one image.
+fn load_file(world: &mut World, file: &[u8]) -> Result<Ending, ExecFault>
+    ensures told { IfOk result
+        (λ ending. file_done file.now world.old ≡ came_of ending world.new) }
+    ensures memory { IfErr result (λ fault. fault ≡ NoMemory) }
+    ensures spends { OnOk result (Spends world.old world.new) }
+{
+    if is_rom(file) {
+        load_rom(world, file)
+    } else {
+        load_one(world, file)
+    }
+}
+
+/// Loads the images of an option ROM.
+fn load_rom(world: &mut World, file: &[u8]) -> Result<Ending, ExecFault>
+    ensures told { IfOk result (λ ending.
+        rom_noted (with_images (rom_in file.now).images (none_tried world.old)) (rom_in file.now).end
+        ≡ came_of ending world.new) }
+    ensures memory { IfErr result (λ fault. fault ≡ NoMemory) }
+    ensures spends { OnOk result (Spends world.old world.new) }
+{
+    let (tried, rom) = load_images(world, file)?;
+    let status = tried.status();
+    Ok(Ending {
+        images: tried.notes,
+        rom,
+        status,
+    })
 }
 
 /// Loads the image that a file is.
-fn load_file(world: &mut World, file: &[u8]) -> Result<Ending, ExecFault>
+fn load_one(world: &mut World, file: &[u8]) -> Result<Ending, ExecFault>
     ensures told { IfOk result
         (λ ending. noted (loaded file.now world.old) ≡ came_of ending world.new) }
     ensures memory { IfErr result (λ fault. fault ≡ NoMemory) }
@@ -152,7 +193,7 @@ fn reply(mut world: World, ending: Ending) -> (Machine, Reply)
         units,
         events: Rows::of(events),
         images: Rows::of(ending.images),
-        rom: None,
+        rom: ending.rom,
         dump: Rows::of(Vec::new(world.alloc())),
     };
     (Machine { world }, reply)

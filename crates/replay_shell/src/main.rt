@@ -7,10 +7,13 @@
 //! `world`), and `report` writes its text. `top` is all of it over any shelf and any sink.
 #![tactic(auto)]
 
+mod disasm;
 mod driver_call;
 mod guest_run;
 mod image;
 mod image_life;
+#[cfg(test)]
+mod image_tests;
 mod machine;
 mod mapping;
 mod read;
@@ -18,6 +21,8 @@ mod replay;
 mod report;
 mod report_words;
 mod respond;
+mod rom_load;
+mod say;
 mod script;
 mod soft_part;
 #[cfg(test)]

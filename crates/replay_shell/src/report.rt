@@ -42,6 +42,13 @@ fn write_events(out: &mut String, events: &[Event]) -> Result<(), AllocError>
     Ok(())
 }
 
+fn write_note(out: &mut String, number: u64, note: &str) -> Result<(), AllocError>
+    ensures { OnOk result (string_bytes out.new
+        ≡ string_bytes out.old ++ line (codes "image" ∷ decimal number ∷ note.now ∷ [])) }
+{
+    writeln!(out, "image {number} {note}")
+}
+
 fn write_image(out: &mut String, number: u64, note: &ImageNote) -> Result<(), AllocError>
     ensures { OnOk result (string_bytes out.new
         ≡ string_bytes out.old ++ line (codes "image" ∷ decimal number ∷ note_words note.now)) }
@@ -59,6 +66,8 @@ fn write_image(out: &mut String, number: u64, note: &ImageNote) -> Result<(), Al
             let refusal = refusal_name(*refusal);
             writeln!(out, "image {number} refused {refusal}")
         }
+        ImageNote::Compressed => write_note(out, number, "compressed"),
+        ImageNote::Skipped => write_note(out, number, "skipped"),
     }
 }
 

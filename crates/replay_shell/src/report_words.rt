@@ -71,7 +71,18 @@ pub fn refusal_name(refusal: PeRefusal) -> &'static str
     ensures { result.now ≡ refusal_word refusal }
 {
     match refusal {
-        PeRefusal::NotBuilt => "NotBuilt",
+        PeRefusal::Short => "Short",
+        PeRefusal::NoMz => "NoMz",
+        PeRefusal::NoPe => "NoPe",
+        PeRefusal::Machine => "Machine",
+        PeRefusal::Magic => "Magic",
+        PeRefusal::Subsystem => "Subsystem",
+        PeRefusal::Stripped => "Stripped",
+        PeRefusal::Size => "Size",
+        PeRefusal::Headers => "Headers",
+        PeRefusal::Section => "Section",
+        PeRefusal::Reloc => "Reloc",
+        PeRefusal::Entry => "Entry",
     }
 }
 

@@ -1,24 +1,48 @@
-ghost use Rattle.std.specs.Prelude.{◌≡◌, ◌≢◌, Ok, Some, IfErr, IfOk, IsErrOf, OnErr, List, false, is_none, nat_eq, option_map, string_bytes};
+ghost use Rattle.std.specs.Prelude.{◌≡◌, ◌≢◌, Ok, Some, IfErr, IfOk, IsErrOf, List, false, is_none, nat_eq, option_map, string_bytes};
 ghost use Rattle.fw_types.specs.declared.command.Command.{Command as CommandValue};
 ghost use Rattle.fw_shelf.specs.Faults.{Rose};
 ghost use Rattle.fw_shelf.specs.Shelf.{Files, file_of};
-ghost use Rattle.replay_shell.specs.Headline.{Ends, EndsWith, answer, file_answer, file_commands, form_of, gave_up, run, script_answer, script_commands, words_in};
+ghost use Rattle.replay_shell.specs.Headline.{Ends, EndsWith, answer, asked, file_answer, file_commands, form_of, form_told, gave_up, script_answer, script_commands, words_in};
 ghost use Rattle.replay_shell.specs.OtherTexts.{kind_word, refused_line};
 ghost use Rattle.replay_shell.specs.ScriptGrammar.{script_of};
 
+use crate::disasm::list_image;
 use crate::read::parse;
 use crate::replay::{Stop, replay};
+use crate::say::say;
 use crate::script::{Script, ScriptFault, ScriptKind};
-use fw_shelf::{Shelf, ShelfFault, Sink, write_all};
+use fw_shelf::{Shelf, ShelfFault, Sink};
 use fw_types::OutOfMemory;
 use std::alloc::Global;
 
-/// The name of the script, where the words are `run` and a name.
-fn script_named(words: &Vec<String>) -> Option<&str>
-    ensures { option_map (λ name. run name.now) result ≡ form_of (words_in words.now.items) }
+/// What the words ask for, each with the name of a file.
+#[derive(Clone, Copy, Debug)]
+pub enum Form<'a> {
+    /// The report of a script.
+    Run(&'a str),
+    /// The listing of an image.
+    Disasm(&'a str),
+}
+
+/// The form of the words, where they are of one.
+fn form_asked(words: &Vec<String>) -> Option<Form<'_>>
+    ensures { option_map asked result ≡ form_of (words_in words.now.items) }
 {
-    if words.len() == 2 && words[0].as_str() == "run" {
-        Some(words[1].as_str())
+    if words.len() == 2 {
+        form_told(words[0].as_str(), words[1].as_str())
+    } else {
+        None
+    }
+}
+
+/// The form of a verb and a name.
+fn form_told<'a>(verb: &str, name: &'a str) -> Option<Form<'a>>
+    ensures { option_map asked result ≡ form_told verb.now name.now }
+{
+    if verb == "run" {
+        Some(Form::Run(name))
+    } else if verb == "disasm" {
+        Some(Form::Disasm(name))
     } else {
         None
     }
@@ -40,19 +64,6 @@ fn refusal(alloc: Global, line: u32, kind: ScriptKind) -> Result<String, OutOfMe
 {
     let kind = kind_name(kind);
     Ok(format!(in alloc; "script {line} {kind}\n")?)
-}
-
-/// Writes a line, and answers a status.
-fn say<K: Sink>(sink: &mut K, status: u8, line: &[u8]) -> Result<u8, Stop>
-    ensures told { (files : Files) (commands : List CommandValue)
-        → EndsWith (answer status line.now) files commands result (K.taken sink.old) (K.taken sink.new) }
-    ensures status { IfOk result (λ answer. answer ≡ status) }
-    ensures sink_alone { IfErr result (λ stop. stop ≡ Stop.Sink) }
-    ensures sink_failed { OnErr result (Rose (K.faults sink.old) (K.faults sink.new)) }
-    ensures becomes { K.becomes sink.old sink.new }
-{
-    write_all(sink, line)?;
-    Ok(status)
 }
 
 /// Answers that a line of the script is refused.
@@ -162,8 +173,9 @@ pub fn respond<F: Shelf, K: Sink>(
         → Rose (K.faults sink.old) (K.faults sink.new) }
     ensures becomes { F.becomes shelf.old shelf.new × K.becomes sink.old sink.new }
 {
-    match script_named(words) {
-        Some(name) => run_script(alloc, name, shelf, sink),
+    match form_asked(words) {
+        Some(Form::Run(name)) => run_script(alloc, name, shelf, sink),
+        Some(Form::Disasm(name)) => list_image(alloc, name, shelf, sink),
         None => say(
             sink,
             1,

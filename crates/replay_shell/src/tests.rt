@@ -12,7 +12,7 @@ const SMALLEST_REPORT: &str =
     "> load a.efi\n1 0 entry 3 0 0 SUCCESS\nimage 1 handle 3\n= SUCCESS 82\n";
 
 /// Puts bytes at a place.
-fn put(bytes: &mut Vec<u8>, at: usize, field: &[u8]) {
+pub fn put(bytes: &mut Vec<u8>, at: usize, field: &[u8]) {
     for (slot, byte) in bytes.iter_mut().skip(at).zip(field) {
         *slot = *byte;
     }
@@ -20,7 +20,7 @@ fn put(bytes: &mut Vec<u8>, at: usize, field: &[u8]) {
 
 /// The image file of some code, entered at its first byte: headers of 512 bytes, and one section
 /// with the code (PE/COFF: File Headers, Optional Header, Section Table).
-fn image(alloc: Global, code: &[u8]) -> Result<Vec<u8>, AllocError> {
+pub fn image(alloc: Global, code: &[u8]) -> Result<Vec<u8>, AllocError> {
     let size = code.len().min(0xff_fe00);
     let room = size.div_ceil(512) * 512;
     let mut file = vec![in alloc; 0u8; 512 + room]?;
@@ -64,7 +64,7 @@ fn shelf_of(
 }
 
 /// The words `run` and a name.
-fn run_words(alloc: Global, name: &str) -> Result<Vec<String>, AllocError> {
+pub fn run_words(alloc: Global, name: &str) -> Result<Vec<String>, AllocError> {
     let run = String::from_str(alloc, "run")?;
     let name = String::from_str(alloc, name)?;
     Ok(vec![in alloc; run, name]?)
@@ -100,7 +100,7 @@ fn loads_are_replayed(rt: HostRuntime) -> Result<(), Fail> {
             "load s\n",
             SMALLEST,
             SMALLEST,
-            "> load s\nimage 1 refused NotBuilt\n= UNSUPPORTED 0\n",
+            "> load s\nimage 1 refused Short\n= LOAD_ERROR 0\n",
         ),
         // MOVIqw R7, 0 alone runs into zeros, which are BREAK 0.
         (

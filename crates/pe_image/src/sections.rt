@@ -1,0 +1,102 @@
+//! The section table.
+ghost use Rattle.std.specs.Prelude.{◌≡◌, ◌≤◌, ◌<◌, ◌+◌, ◌*◌, ◌^◌, find};
+ghost use Rattle.pe_image.specs.Headers.{headers_of, section_table, section_at, sections_of, extent_of, copied_of, end_of, has_address, has_copied, file_place};
+
+use crate::fields::{section_count, section_table};
+use crate::numbers::long_at;
+
+/// What the section table says of a section (PE/COFF: Section Table).
+#[derive(Clone, Copy, Debug)]
+pub struct SectionHeader {
+    /// How many bytes it has in the image; where this is 0, `raw_size` says it.
+    pub virtual_size: u32,
+    /// Where it begins in the image.
+    pub address: u32,
+    /// How many bytes it has in the file.
+    pub raw_size: u32,
+    /// Where they begin in the file.
+    pub file_offset: u32,
+}
+
+impl SectionHeader {
+    /// How many bytes the section has in the image.
+    pub fn extent(self) -> u32
+        ensures { result ≡ extent_of self }
+    {
+        if self.virtual_size == 0 {
+            self.raw_size
+        } else {
+            self.virtual_size
+        }
+    }
+
+    /// How many bytes of the section are copied from the file.
+    pub fn copied(self) -> u32
+        ensures { result ≡ copied_of self }
+    {
+        self.extent().min(self.raw_size)
+    }
+
+    /// The place in the image behind the section.
+    pub fn end(self) -> u64
+        ensures { result ≡ end_of self }
+    {
+        u64::from(self.address) + u64::from(self.extent())
+    }
+
+    /// Whether a place of the image lies in the section.
+    pub fn has_address(self, place: u32) -> bool
+        ensures { result ≡ has_address place self }
+    {
+        self.address <= place && u64::from(place) < self.end()
+    }
+
+    /// Whether so many bytes at a place of the image are all copied from the file.
+    pub fn has_copied(self, place: u32, count: u32) -> bool
+        ensures { result ≡ has_copied place count self }
+    {
+        self.address <= place
+            && u64::from(place) + u64::from(count)
+                <= u64::from(self.address) + u64::from(self.copied())
+    }
+
+    /// Where the file has the byte of a place of the image that is copied.
+    pub fn file_place(self, place: u32) -> usize
+        ensures { result ≡ file_place place self }
+    {
+        self.file_offset as usize + place.saturating_sub(self.address) as usize
+    }
+}
+
+/// The header of a section, by its place in the section table.
+pub fn section_at(bytes: &[u8], index: u16) -> SectionHeader
+    ensures { result ≡ section_at (section_table bytes.now + 40 * index) bytes.now }
+{
+    let place = section_table(bytes) + 40 * usize::from(index);
+    SectionHeader {
+        virtual_size: long_at(bytes, place + 8),
+        address: long_at(bytes, place + 12),
+        raw_size: long_at(bytes, place + 16),
+        file_offset: long_at(bytes, place + 20),
+    }
+}
+
+/// The section that has an address of the image.
+#[tactic(auto, unfolding(crate::specs::Headers::sections_of))]
+pub fn section_with(bytes: &[u8], place: u32) -> Option<SectionHeader>
+    ensures { result ≡ find (has_address place) (sections_of bytes.now) }
+{
+    (0..section_count(bytes))
+        .map(|index| section_at(bytes, index))
+        .find(|section| section.has_address(place))
+}
+
+/// The section of which so many bytes at an address of the image are copied from the file.
+#[tactic(auto, unfolding(crate::specs::Headers::sections_of))]
+pub fn section_with_copied(bytes: &[u8], place: u32, count: u32) -> Option<SectionHeader>
+    ensures { result ≡ find (has_copied place count) (sections_of bytes.now) }
+{
+    (0..section_count(bytes))
+        .map(|index| section_at(bytes, index))
+        .find(|section| section.has_copied(place, count))
+}

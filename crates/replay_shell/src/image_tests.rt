@@ -1,0 +1,322 @@
+use crate::tests::{image, put, run_words};
+use crate::top::top;
+use ebc_asm::assemble;
+use fw_shelf::{MemShelf, MemSink};
+use fw_types::{OutOfMemory, Rows};
+use option_rom::{RomPart, write};
+use std::alloc::{AllocError, Global};
+use std::test::Fail;
+
+/// The smallest driver: MOVIqw R7, 0 and RET.
+const SMALLEST: &[u8] = b"\x77\x37\x00\x00\x04\x00";
+
+/// A driver whose entry traps at once: BREAK 0.
+const BROKEN: &[u8] = b"\x00\x00";
+
+/// The driver that calls Stall: it reads the system table at 0x18 above the stack pointer, the boot
+/// services there, and calls the service at 0xF8 of them.
+const STALL: &[u8] =
+    b"\x60\x84\x18\x00\x60\xC4\x60\x00\x35\x05\x83\x2C\xF8\x00\x00\x00\x36\x05\x04\x00";
+
+const STALL_LISTING: &str =
+    "00000200 MOVqw R4, @R0[0x0018]\n00000204 MOVqw R4, @R4[0x0060]\n00000208 PUSHn R5\n0000020A CALL32EXa @R4[0x000000F8]\n00000210 POPn R5\n00000212 RET\n";
+
+/// What `top` answers and writes for two words, where the file `f` has these bytes.
+fn answered(
+    alloc: Global,
+    verb: &str,
+    name: &str,
+    file: Vec<u8>,
+    failing_reads: &[u64],
+    failing_writes: &[u64],
+) -> Result<(u8, MemSink), OutOfMemory> {
+    let script = (
+        String::from_str(alloc, "s")?,
+        Vec::from_slice(alloc, b"load f\n")?,
+    );
+    let file = (String::from_str(alloc, "f")?, file);
+    let files = vec![in alloc; script, file]?;
+    let mut shelf = MemShelf::new(files, Vec::from_slice(alloc, failing_reads)?);
+    let mut sink = MemSink::new(alloc, 10_000, 7, Vec::from_slice(alloc, failing_writes)?)?;
+    let mut words = Vec::new(alloc);
+    words.push(String::from_str(alloc, verb)?)?;
+    words.push(String::from_str(alloc, name)?)?;
+    Ok((top(alloc, &words, &mut shelf, &mut sink), sink))
+}
+
+/// What is written where a script loads a file.
+fn loaded(alloc: Global, file: Vec<u8>) -> Result<(u8, MemSink), OutOfMemory> {
+    answered(alloc, "run", "s", file, &[], &[])
+}
+
+/// What is written where an image is listed.
+fn listed(alloc: Global, file: Vec<u8>) -> Result<(u8, MemSink), OutOfMemory> {
+    answered(alloc, "disasm", "f", file, &[], &[])
+}
+
+/// The smallest driver's image with bytes at some places changed.
+fn changed(alloc: Global, changes: &[(usize, &[u8])]) -> Result<Vec<u8>, AllocError> {
+    let mut file = image(alloc, SMALLEST)?;
+    for (at, bytes) in changes {
+        put(&mut file, *at, bytes);
+    }
+    Ok(file)
+}
+
+/// Changes of the smallest driver's image, each with what the report says of it.
+#[test]
+fn images_are_refused_by_kind(rt: HostRuntime) -> Result<(), Fail> {
+    let accepted = "1 0 entry 3 0 0 SUCCESS\nimage 1 handle 3\n= SUCCESS 82\n";
+    let cases: [(&[(usize, &[u8])], &str); 14] = [
+        (&[], accepted),
+        // A relocation of the last 8 bytes of the image, and one that passes its end.
+        (
+            &[
+                (0x100, &[18]),
+                (0xF0, &[0x08, 0x02, 0, 0, 10]),
+                (0x208, &[0, 0, 0, 0, 10, 0, 0, 0, 0xF8, 0xA3]),
+            ],
+            accepted,
+        ),
+        (
+            &[
+                (0x100, &[18]),
+                (0xF0, &[0x08, 0x02, 0, 0, 10]),
+                (0x208, &[0, 0, 0, 0, 10, 0, 0, 0, 0xF9, 0xA3]),
+            ],
+            "image 1 refused Reloc\n= LOAD_ERROR 0\n",
+        ),
+        // An application of which the relocations were stripped.
+        (
+            &[(0x9C, &[10]), (0x56, &[0x0F])],
+            "image 1 refused Subsystem\n= UNSUPPORTED 0\n",
+        ),
+        (&[(0, b"ZM")], "image 1 refused NoMz\n= LOAD_ERROR 0\n"),
+        (&[(0x40, b"NE")], "image 1 refused NoPe\n= LOAD_ERROR 0\n"),
+        (
+            &[(0x44, &[0x64, 0x86])],
+            "image 1 refused Machine\n= UNSUPPORTED 0\n",
+        ),
+        (
+            &[(0x58, &[0x0B, 0x01])],
+            "image 1 refused Magic\n= UNSUPPORTED 0\n",
+        ),
+        (
+            &[(0x56, &[0x0F])],
+            "image 1 refused Stripped\n= LOAD_ERROR 0\n",
+        ),
+        (
+            &[(0x90, &[0, 0, 0, 0])],
+            "image 1 refused Size\n= LOAD_ERROR 0\n",
+        ),
+        (
+            &[(0x46, &[97])],
+            "image 1 refused Headers\n= LOAD_ERROR 0\n",
+        ),
+        (
+            &[(0x104, &[0x00, 0x01])],
+            "image 1 refused Section\n= LOAD_ERROR 0\n",
+        ),
+        (
+            &[(0x68, &[0x01, 0x02])],
+            "image 1 refused Entry\n= LOAD_ERROR 0\n",
+        ),
+        // A runtime driver.
+        (&[(0x9C, &[12])], accepted),
+    ];
+    for (changes, said) in cases {
+        let file = changed(rt.alloc(), changes)?;
+        let (status, sink) = loaded(rt.alloc(), file)?;
+        let report = format!(in rt.alloc(); "> load f\n{said}")?;
+        assert_eq!(rt; status, 0, "at {said}");
+        assert_eq!(rt; sink.taken(), report.as_bytes(), "at {said}");
+    }
+    Ok(())
+}
+
+#[test]
+fn images_are_listed(rt: HostRuntime) -> Result<(), Fail> {
+    let alloc = rt.alloc();
+    let (status, sink) = listed(alloc, image(alloc, STALL)?)?;
+    assert_eq!(rt; status, 0);
+    assert_eq!(rt; sink.taken(), STALL_LISTING.as_bytes());
+    // Changes of the smallest driver's image, and the status with its text.
+    let cases: [(&[(usize, &[u8])], u8, &str); 6] = [
+        (&[], 0, "00000200 MOVIqw R7, 0\n00000204 RET\n"),
+        (&[(0x68, &[0x04, 0x02])], 0, "00000204 RET\n"),
+        (&[(0x200, &[0x27])], 0, "00000200 .illegal\n"),
+        // The entry is in the headers, so in no section.
+        (&[(0x68, &[0x10, 0x00])], 0, ""),
+        (&[(0x9C, &[10]), (0x56, &[0x0F])], 8, "image Subsystem\n"),
+        (&[(0, b"ZM")], 8, "image NoMz\n"),
+    ];
+    for (changes, want, text) in cases {
+        let file = changed(alloc, changes)?;
+        let (status, sink) = listed(alloc, file)?;
+        assert_eq!(rt; status, want, "at {text}");
+        assert_eq!(rt; sink.taken(), text.as_bytes(), "at {text}");
+    }
+    Ok(())
+}
+
+#[test]
+fn a_listing_ends_for_other_causes(rt: HostRuntime) -> Result<(), Fail> {
+    let alloc = rt.alloc();
+    let (status, sink) = answered(alloc, "disasm", "x", image(alloc, STALL)?, &[], &[])?;
+    assert_eq!(rt; status, 6);
+    assert_eq!(rt; sink.taken(), b"no such file\n".as_slice());
+    let (status, sink) = listed(alloc, vec![in alloc; 0; 16_777_217]?)?;
+    assert_eq!(rt; status, 7);
+    assert_eq!(rt; sink.taken(), b"file too long\n".as_slice());
+    let (status, sink) = answered(alloc, "disasm", "f", image(alloc, STALL)?, &[1], &[])?;
+    assert_eq!(rt; status, 3);
+    assert_eq!(rt; sink.taken(), b"".as_slice());
+    // Two writes of 7 bytes each work.
+    let (status, sink) = answered(alloc, "disasm", "f", image(alloc, STALL)?, &[], &[3])?;
+    assert_eq!(rt; status, 4);
+    assert_eq!(rt; sink.taken(), b"00000200 MOVqw".as_slice());
+    Ok(())
+}
+
+/// An image of an option ROM that is no plain driver: its header, with the signature of an EFI image
+/// where its code type is 3, and the PCI data structure at 28.
+fn other_image(alloc: Global, code_type: u8, compression: u8) -> Result<Vec<u8>, AllocError> {
+    let mut bytes: Vec<u8> = vec![in alloc; 0; 512]?;
+    put(&mut bytes, 0, &[0x55, 0xAA, 1]);
+    if code_type == 3 {
+        put(&mut bytes, 4, &[0xF1, 0x0E]);
+        put(&mut bytes, 8, &[11, 0, 0xBC, 0x0E, compression]);
+        put(&mut bytes, 22, &[64]);
+    }
+    put(&mut bytes, 24, &[28]);
+    put(&mut bytes, 28, b"PCIR");
+    put(&mut bytes, 38, &[24]);
+    put(&mut bytes, 44, &[1, 0, 0, 0, code_type]);
+    Ok(bytes)
+}
+
+/// The option ROM of some files, each the body of an image.
+fn rom_of(alloc: Global, bodies: &[&[u8]]) -> Result<Vec<u8>, Fail> {
+    let mut parts = Vec::new(alloc);
+    for body in bodies {
+        parts.push(RomPart {
+            vendor: 0x1AF4,
+            device: 0x1000,
+            class: 0x02_0000,
+            body: Rows::of(Vec::from_slice(alloc, body)?),
+        })?;
+    }
+    Ok(write(alloc, parts.as_slice()).ok().ok_or("refused")?)
+}
+
+/// An image for another kind of machine, a compressed driver, and the smallest driver: 2,560 bytes.
+fn three_images(alloc: Global) -> Result<Vec<u8>, Fail> {
+    let mut rom = other_image(alloc, 0, 0)?;
+    rom.extend_from_slice(other_image(alloc, 3, 1)?.as_slice())?;
+    let driver = image(alloc, SMALLEST)?;
+    rom.extend_from_slice(rom_of(alloc, &[driver.as_slice()])?.as_slice())?;
+    Ok(rom)
+}
+
+#[test]
+fn option_roms_are_loaded_image_by_image(rt: HostRuntime) -> Result<(), Fail> {
+    let alloc = rt.alloc();
+    let smallest = image(alloc, SMALLEST)?;
+    let broken = image(alloc, BROKEN)?;
+    let good = smallest.as_slice();
+    let bad = broken.as_slice();
+    let mut cut = three_images(alloc)?;
+    put(&mut cut, 1024 + 44, &[4]);
+    let mut compressed_last = rom_of(alloc, &[bad])?;
+    put(&mut compressed_last, 49, &[0]);
+    compressed_last.extend_from_slice(other_image(alloc, 3, 1)?.as_slice())?;
+    // An option ROM, and what the report says of it.
+    let cases: [(Vec<u8>, &str); 8] = [
+        (
+            three_images(alloc)?,
+            "1 0 entry 3 0 0 SUCCESS\nimage 1 skipped\nimage 2 compressed\nimage 3 handle 3\nrom Done\n= SUCCESS 82\n",
+        ),
+        // The third image is longer than the ROM.
+        (
+            cut,
+            "image 1 skipped\nimage 2 compressed\nrom PastEnd\n= UNSUPPORTED 0\n",
+        ),
+        (
+            Vec::from_slice(alloc, b"\x55\xAA")?,
+            "rom BadSignature\n= UNSUPPORTED 0\n",
+        ),
+        // Every image fails: the status is that of the last that was tried.
+        (
+            rom_of(alloc, &[bad, b"no image"])?,
+            "1 0 entry 3 0 0 trap:Break\nimage 1 ABORTED\nimage 2 refused NoMz\nrom Done\n= LOAD_ERROR 81\n",
+        ),
+        (
+            rom_of(alloc, &[b"no image", bad])?,
+            "1 0 entry 3 0 0 trap:Break\nimage 1 refused NoMz\nimage 2 ABORTED\nrom Done\n= ABORTED 81\n",
+        ),
+        (
+            compressed_last,
+            "1 0 entry 3 0 0 trap:Break\nimage 1 ABORTED\nimage 2 compressed\nrom BadSignature\n= ABORTED 81\n",
+        ),
+        // The second image fails and is undone, so the third gets its handle.
+        (
+            rom_of(alloc, &[good, bad, good])?,
+            "1 0 entry 3 0 0 SUCCESS\n2 0 entry 4 0 0 trap:Break\n3 0 entry 4 0 0 SUCCESS\nimage 1 handle 3\nimage 2 ABORTED\nimage 3 handle 4\nrom Done\n= SUCCESS 245\n",
+        ),
+        // One stayed loaded, whatever came behind it.
+        (
+            rom_of(alloc, &[good, bad])?,
+            "1 0 entry 3 0 0 SUCCESS\n2 0 entry 4 0 0 trap:Break\nimage 1 handle 3\nimage 2 ABORTED\nrom Done\n= SUCCESS 163\n",
+        ),
+    ];
+    for (rom, said) in cases {
+        let (status, sink) = loaded(alloc, rom)?;
+        let report = format!(in alloc; "> load f\n{said}")?;
+        assert_eq!(rt; status, 0, "at {said}");
+        assert_eq!(rt; sink.taken(), report.as_bytes(), "at {said}");
+    }
+    Ok(())
+}
+
+/// Adds 10, 9, .. and 1, and answers DEVICE_ERROR where the sum is not 55. R4 is 0 as it begins.
+const ADDER: &str = "\
+    MOVIqw R5, 10\n\
+    MOVIqw R6, 0\n\
+    next:\n\
+    ADD64 R6, R5\n\
+    ADD64 R5, R4{-1}\n\
+    CMPI64weq R5, 0\n\
+    JMP8cc =next\n\
+    CMPI64weq R6, 55\n\
+    JMP8cs =good\n\
+    MOVIqq R7, -9223372036854775801 ; 0x8000000000000007\n\
+    RET\n\
+    good:\n\
+    MOVIqw R7, 0\n\
+    RET\n";
+
+#[test]
+fn a_driver_with_a_loop_is_assembled_and_run(rt: HostRuntime) -> Result<(), Fail> {
+    let alloc = rt.alloc();
+    // The sum that is wanted, which stands behind 22 bytes of the code, and the report. Of units,
+    // laying costs 16 and the call 64; then two instructions stand before the loop, which has 4 and is
+    // run 10 times, and 4 behind it.
+    let cases: [(u8, &str); 2] = [
+        (
+            55,
+            "> load f\n1 0 entry 3 0 0 SUCCESS\nimage 1 handle 3\n= SUCCESS 126\n",
+        ),
+        (
+            56,
+            "> load f\n1 0 entry 3 0 0 DEVICE_ERROR\nimage 1 DEVICE_ERROR\n= DEVICE_ERROR 126\n",
+        ),
+    ];
+    for (want, report) in cases {
+        let mut code = assemble(alloc, ADDER).ok().ok_or("refused")?;
+        put(&mut code, 22, &[want]);
+        let (status, sink) = loaded(alloc, image(alloc, code.as_slice())?)?;
+        assert_eq!(rt; status, 0);
+        assert_eq!(rt; sink.taken(), report.as_bytes());
+    }
+    Ok(())
+}

@@ -1,0 +1,21 @@
+ghost use Rattle.std.specs.Prelude.{◌≡◌, IfErr, IfOk, OnErr, List};
+ghost use Rattle.fw_types.specs.declared.command.Command.{Command as CommandValue};
+ghost use Rattle.fw_shelf.specs.Faults.{Rose};
+ghost use Rattle.fw_shelf.specs.Shelf.{Files};
+ghost use Rattle.replay_shell.specs.Headline.{EndsWith, answer};
+
+use crate::replay::Stop;
+use fw_shelf::{Sink, write_all};
+
+/// Writes a text, and answers a status.
+pub fn say<K: Sink>(sink: &mut K, status: u8, text: &[u8]) -> Result<u8, Stop>
+    ensures told { (files : Files) (commands : List CommandValue)
+        → EndsWith (answer status text.now) files commands result (K.taken sink.old) (K.taken sink.new) }
+    ensures status { IfOk result (λ answer. answer ≡ status) }
+    ensures sink_alone { IfErr result (λ stop. stop ≡ Stop.Sink) }
+    ensures sink_failed { OnErr result (Rose (K.faults sink.old) (K.faults sink.new)) }
+    ensures becomes { K.becomes sink.old sink.new }
+{
+    write_all(sink, text)?;
+    Ok(status)
+}

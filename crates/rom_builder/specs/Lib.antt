@@ -1,0 +1,3 @@
+pub mod MadeImage
+pub mod LaidMadeImage
+pub mod RomParts
