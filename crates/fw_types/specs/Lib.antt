@@ -1,2 +1,3 @@
+pub mod Attr
 pub mod Guid
 pub mod Status

@@ -17,8 +17,14 @@ pub enum Cause {
     Divide,
     /// A BREAK has a code that means nothing here.
     Break,
+    /// A native call went to an address at which the firmware has no function.
+    BadCall,
+    /// A thunk was called at the deepest level.
+    Nest,
     /// A price was more than the units that were left.
     Budget,
+    /// The numbers of thunks are all handed out.
+    Thunks,
     /// The instruction asks for a call that this machine does not have yet.
     NotBuilt,
 }

@@ -5,6 +5,7 @@
 //! sixteen bytes, so a command in the program and a command in a definition are compared by `≡`.
 #![tactic(auto)]
 
+mod attr;
 mod command;
 mod dump;
 mod event;
@@ -17,6 +18,7 @@ mod rows;
 mod status;
 mod text;
 
+pub use attr::Attr;
 pub use command::Command;
 pub use dump::DumpLine;
 pub use event::{Cause, Event, EventKind, Outcome};

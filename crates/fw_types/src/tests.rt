@@ -1,4 +1,4 @@
-use crate::{Command, Guid, Handle, Known, OutOfMemory, Reply, Rows, Status, Text};
+use crate::{Attr, Command, Guid, Handle, Known, OutOfMemory, Reply, Rows, Status, Text};
 use std::alloc::Global;
 use std::test::Fail;
 
@@ -31,6 +31,24 @@ fn statuses_have_their_names(rt: HostRuntime) {
         assert_eq!(rt; Status(value).name(), None);
         assert!(rt; !Status(value).is_error());
     }
+}
+
+#[test]
+fn seven_attributes_are_legal(rt: HostRuntime) {
+    let legal = [0x01, 0x02, 0x04, 0x08, 0x10, 0x20, 0x30];
+    for bits in 0..0x100 {
+        let attr = Attr::legal(bits);
+        assert_eq!(rt; attr.is_some(), legal.contains(&bits), "at {bits}");
+        if let Some(attr) = attr {
+            assert_eq!(rt; attr.bits(), bits);
+            let manages = bits == Attr::BY_DRIVER || bits >= Attr::EXCLUSIVE;
+            assert_eq!(rt; attr.has_bit_of(Attr::BY_DRIVER + Attr::EXCLUSIVE), manages);
+            assert_eq!(rt; attr.has_bit_of(Attr::BY_HANDLE_PROTOCOL), bits == 0x01);
+        }
+    }
+    // Bits above the byte are looked at too.
+    assert_eq!(rt; Attr::legal(0x8000_0001), None);
+    assert_eq!(rt; Attr::legal(0x0100_0010), None);
 }
 
 #[test]
