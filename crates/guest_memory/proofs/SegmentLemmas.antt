@@ -1,5 +1,5 @@
 -- How mapping, unmapping and writing leave segments apart, and what segments that lie apart have.
-use Rattle.std.proofs.Common.{◌≡◌, ◌<◌, ◌-◌, ◌≤◌, ℕ, ◌+◌, ◌^◌, max, Bool, true, false, nat_eq, List, [], ◌∷◌, length-append, length-take, length-drop, ◌++◌, take, drop, set, length, get_or, suc, refl, ap, sym, ◌∙◌, arith}
+use Rattle.std.proofs.Common.{◌≡◌, ◌<◌, ◌≤◌, ℕ, ◌+◌, ◌^◌, cond, Bool, true, false, nat_eq, List, [], ◌∷◌, ◌++◌, take, drop, set, length, get_or, suc, refl, ap, sym, ◌∙◌, arith}
 use Rattle.std.specs.Prelude.{if◌then◌else◌}
 use Rattle.std.specs.List.{list_any}
 use Rattle.std.proofs.Math.Seq.{drop-cons}
@@ -8,10 +8,12 @@ use Rattle.std.proofs.lemmas.List.Sums.{sum_by-cons}
 use Rattle.std.proofs.lemmas.Bool.Decides.{nat_tests}
 use Rattle.byteorder.specs.Endian.{little_bytes}
 use Rattle.byteorder.specs.Numbers.{length-bytes_low_first}
-use Rattle.guest_memory.specs.Segment.{has_bytes, with_number, replaced, extent, end_of, meets}
-use Rattle.guest_memory.specs.GuestMemory.{written, layout, lie_from, overlaps, mapped, unmapped, total_of, kind_number}
+use Rattle.guest_memory.specs.Segment.{has_bytes, with_number, end_of, meets}
+use Rattle.guest_memory.specs.GuestMemory.{written, put_bytes, layout, lie_from, overlaps, mapped, unmapped, total_of, kind_number}
 use Rattle.guest_memory.specs.declared.segment.Segment.{Segment}
 use Rattle.guest_memory.specs.declared.segment.SegKind.{SegKind}
+use Rattle.guest_memory.proofs.PutLemmas.{length-with_bytes, lie_from-put_bytes, layout-put_bytes}
+pub use Rattle.guest_memory.proofs.PutLemmas.{length-replaced}
 
 -- ---- a write
 
@@ -30,26 +32,17 @@ written_at segments i at n value segment inside here has before =
     ∙ ap (λ tail. take i segments ++ tail) (sym (ap (λ tail. written tail at n value) rest ∙ written-first segment (drop (suc i) segments) at n value has))
     ∙ before
 
--- bytes in the place of others leave the length
-length-replaced : (bytes : List ℕ) (i : ℕ) (others : List ℕ) → i + length others ≤ length bytes → length (replaced bytes i others) ≡ length bytes
-length-replaced bytes i others h =
-    omega (arith, length-append (take i bytes ++ others) (drop (i + length others) bytes), length-append (take i bytes) others, length-take i bytes, length-drop (i + length others) bytes)
-
--- a write leaves a segment's extent
-extent-with_number : (segment : Segment) (at n value : ℕ) → has_bytes segment at n ≡ true → extent (with_number segment at n value) ≡ extent segment
-extent-with_number segment at n value has =
+-- a number is written as its bytes are put
+pub written-as_bytes : (segments : List Segment) (at n value : ℕ) → written segments at n value ≡ put_bytes segments at (little_bytes n value)
+written-as_bytes [] at n value = refl
+written-as_bytes (segment ∷ segments) at n value =
     let size : length (little_bytes n value) ≡ n = length-bytes_low_first 0 n value in
-    ap (max 1) (length-replaced segment.bytes (at - segment.base) (little_bytes n value) (grind (arith, nat_tests)))
-
-lie_from-written-more : (from : ℕ) (segment : Segment) (segments : List Segment) (at n value : ℕ) → lie_from (end_of segment) (written segments at n value) ≡ lie_from (end_of segment) segments
-    → lie_from from (written (segment ∷ segments) at n value) ≡ lie_from from (segment ∷ segments)
-lie_from-written-more from segment segments at n value rest = grind (arith, rest, extent-with_number segment at n value)
+    ap (λ others. cond (has_bytes segment at n) (with_number segment at n value ∷ segments) (segment ∷ others)) (written-as_bytes segments at n value)
+    ∙ ap (λ (m : ℕ). cond (has_bytes segment at m) (with_number segment at n value ∷ segments) (segment ∷ put_bytes segments at (little_bytes n value))) (sym size)
 
 -- a write leaves where the segments lie
 pub lie_from-written : (from : ℕ) (segments : List Segment) (at n value : ℕ) → lie_from from (written segments at n value) ≡ lie_from from segments
-lie_from-written from [] at n value = refl
-lie_from-written from (segment ∷ segments) at n value =
-    lie_from-written-more from segment segments at n value (lie_from-written (end_of segment) segments at n value)
+lie_from-written from segments at n value = ap (lie_from from) (written-as_bytes segments at n value) ∙ lie_from-put_bytes from segments at (little_bytes n value)
 
 -- so does one that is refused
 pub lie_from-answered : (done : Bool) (segments : List Segment) (at n value : ℕ) → lie_from 0 (if done then written segments at n value else segments) ≡ lie_from 0 segments
@@ -57,21 +50,13 @@ lie_from-answered true segments at n value = lie_from-written 0 segments at n va
 lie_from-answered false segments at n value = refl
 
 -- a write leaves a segment's length
-length-with_number : (segment : Segment) (at n value : ℕ) → has_bytes segment at n ≡ true → length (with_number segment at n value).bytes ≡ length segment.bytes
+pub length-with_number : (segment : Segment) (at n value : ℕ) → has_bytes segment at n ≡ true → length (with_number segment at n value).bytes ≡ length segment.bytes
 length-with_number segment at n value has =
-    let size : length (little_bytes n value) ≡ n = length-bytes_low_first 0 n value in
-    length-replaced segment.bytes (at - segment.base) (little_bytes n value) (grind (arith, nat_tests))
-
-layout-written-more : (has : Bool) (segment : Segment) (segments : List Segment) (at n value : ℕ) → (has ≡ true → length (with_number segment at n value).bytes ≡ length segment.bytes) → layout (written segments at n value) ≡ layout segments
-    → layout (if has then with_number segment at n value ∷ segments else segment ∷ written segments at n value) ≡ layout (segment ∷ segments)
-layout-written-more true segment segments at n value size rest = ap (λ (size : ℕ). (segment.base, size, kind_number segment.kind) ∷ layout segments) (size refl)
-layout-written-more false segment segments at n value size rest = ap (λ entries. (segment.base, length segment.bytes, kind_number segment.kind) ∷ entries) rest
+    length-with_bytes segment at (little_bytes n value) (ap (has_bytes segment at) (length-bytes_low_first 0 n value) ∙ has)
 
 -- a write leaves where the segments lie, how long they are and of which kinds
 pub layout-written : (segments : List Segment) (at n value : ℕ) → layout (written segments at n value) ≡ layout segments
-layout-written [] at n value = refl
-layout-written (segment ∷ segments) at n value =
-    layout-written-more (has_bytes segment at n) segment segments at n value (length-with_number segment at n value) (layout-written segments at n value)
+layout-written segments at n value = ap layout (written-as_bytes segments at n value) ∙ layout-put_bytes segments at (little_bytes n value)
 
 -- ---- unmapping
 

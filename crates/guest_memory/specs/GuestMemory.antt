@@ -1,7 +1,8 @@
 -- The memory that a driver's code sees: a list of segments, sorted by address, no two of which meet.
 use Rattle.std.specs.Prelude.{◌≡◌, ◌<◌, ℕ, ◌+◌, ◌^◌, sum_by, count_by, find, Bool, ◌&&◌, ◌||◌, false, nat_le, nat_lt, nat_eq, List, [], ◌∷◌, length, map, remove, slice_index_or, Option, Some, None, Result, Ok, Err, if◌then◌else◌}
 use Rattle.std.specs.List.{list_any}
-use Rattle.guest_memory.specs.Segment.{is_writable, is_image, is_block, has_bytes, number_at, with_number, code_at, end_of, meets}
+use Rattle.std.specs.Option.{is_some}
+use Rattle.guest_memory.specs.Segment.{is_writable, is_image, is_block, has_bytes, number_at, bytes_at, with_bytes, with_number, code_at, end_of, meets}
 use Rattle.guest_memory.specs.declared.segment.Segment.{Segment}
 use Rattle.guest_memory.specs.declared.segment.SegKind.{SegKind}
 use Rattle.guest_memory.specs.declared.segment.SegKind.TheVariants.{Image, Pool, Firmware, Stack, Table}
@@ -58,6 +59,37 @@ Gives (Err ReadOnly) answer = answer ≡ Err ReadOnly
 Gives (Err Overlap) answer = answer ≡ Err Overlap
 Gives (Err Full) answer = answer ≡ Err Full
 
+-- ---- ranges of bytes
+
+-- Whether n bytes from an address on can be read: one segment has them all. No bytes always can.
+abbrev pub is_readable : List Segment → ℕ → ℕ → Bool
+is_readable segments at n = nat_eq n 0 || is_some (holder segments at n)
+
+-- whether there is a segment that the code may write
+abbrev pub is_writable_holder : Option Segment → Bool
+is_writable_holder None = false
+is_writable_holder (Some segment) = is_writable segment.kind
+
+-- Whether n bytes from an address on can be written: one segment has them all, and is writable. No bytes always can.
+abbrev pub is_writable_range : List Segment → ℕ → ℕ → Bool
+is_writable_range segments at n = nat_eq n 0 || is_writable_holder (holder segments at n)
+
+-- the n bytes of a segment from an address on, and none where there is none
+abbrev pub bytes_in : Option Segment → ℕ → ℕ → List ℕ
+bytes_in None at n = []
+bytes_in (Some segment) at n = bytes_at segment at n
+
+-- the n bytes from an address on, and none where no one segment has them all
+abbrev pub bytes_of : List Segment → ℕ → ℕ → List ℕ
+bytes_of segments at n = bytes_in (holder segments at n) at n
+
+-- the segments with these bytes from an address on, in the one that has them all, and nothing else changed
+abbrev pub put_bytes : List Segment → ℕ → List ℕ → List Segment
+put_bytes [] at bytes = []
+put_bytes (segment ∷ segments) at bytes =
+    if has_bytes segment at (length bytes) then with_bytes segment at bytes ∷ segments
+    else segment ∷ put_bytes segments at bytes
+
 -- ---- mapping
 
 -- whether segments lie one behind the other from an address on, and end by 2^63
@@ -76,6 +108,10 @@ kind_number Pool = 1
 kind_number Firmware = 2
 kind_number Stack = 3
 kind_number Table = 4
+
+-- whether a segment is of a kind
+abbrev pub is_of : SegKind → Segment → Bool
+is_of kind segment = nat_eq (kind_number segment.kind) (kind_number kind)
 
 -- how many bytes the segments of a kind have
 abbrev pub total_of : List Segment → SegKind → ℕ
@@ -122,6 +158,10 @@ mapped new (segment ∷ segments) =
 abbrev pub beginning_at : List Segment → ℕ → Result Segment MemRefusal
 beginning_at [] base = Err NoSegment
 beginning_at (segment ∷ segments) base = if nat_eq segment.base base then Ok segment else beginning_at segments base
+
+-- whether a segment of a kind begins at an address
+abbrev pub begins : SegKind → ℕ → List Segment → Bool
+begins kind base segments = list_any (λ segment. nat_eq segment.base base && is_of kind segment) segments
 
 -- the segments without that one
 abbrev pub unmapped : List Segment → ℕ → List Segment

@@ -47,10 +47,17 @@ number_at segment at n = little_number n (drop (at - segment.base) segment.bytes
 abbrev pub replaced : List ℕ → ℕ → List ℕ → List ℕ
 replaced bytes i others = take i bytes ++ others ++ drop (i + length others) bytes
 
+-- its n bytes from an address on
+abbrev pub bytes_at : Segment → ℕ → ℕ → List ℕ
+bytes_at segment at n = take n (drop (at - segment.base) segment.bytes)
+
+-- the segment with these bytes at an address
+abbrev pub with_bytes : Segment → ℕ → List ℕ → Segment
+with_bytes segment at bytes = record segment { bytes = replaced segment.bytes (at - segment.base) bytes }
+
 -- the segment with the lowest n bytes of a number at an address
 abbrev pub with_number : Segment → ℕ → ℕ → ℕ → Segment
-with_number segment at n value =
-    record segment { bytes = replaced segment.bytes (at - segment.base) (little_bytes n value) }
+with_number segment at n value = with_bytes segment at (little_bytes n value)
 
 -- its bytes from an address on, at most 18: as many as the longest instruction has
 abbrev pub code_at : Segment → ℕ → List ℕ

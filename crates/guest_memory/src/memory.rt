@@ -1,7 +1,8 @@
-ghost use Rattle.std.specs.List.{list_any};
-ghost use Rattle.std.specs.Prelude.{◌≡◌, ◌^◌, ◌<◌, ◌≤◌, refl, [], List, insert, IsTrue, IsErrOf, OnOk, OnErr, IfOk, IfSome, IfNone, is_ok, Ok, Err, length, option_copied, ◌++◌, ◌+◌, drop, nat_lt, if◌then◌else◌};
+ghost use Rattle.std.specs.List.{list_any, position};
+ghost use Rattle.std.specs.Prelude.{◌≡◌, ◌^◌, ◌<◌, ◌≤◌, refl, [], List, insert, IsTrue, IsErrOf, OnOk, OnErr, IfOk, IfSome, IfNone, is_ok, Ok, Err, length, option_copied, option_map, ◌++◌, ◌+◌, drop, nat_lt, replicate, if◌then◌else◌};
 ghost use Rattle.guest_memory.specs.Segment.{is_access, has_bytes, meets};
-ghost use Rattle.guest_memory.specs.GuestMemory.{holder, loaded, write_answer, written, image_with, fetched, lie_from, overlaps, total_of, block_count, most_bytes, is_pool_full, is_full, map_answer, mapped, beginning_at, unmapped, IsPlaceOf, Gives};
+ghost use Rattle.guest_memory.specs.GuestMemory.{holder, loaded, write_answer, written, is_readable, is_writable_range, bytes_of, put_bytes, image_with, fetched, lie_from, overlaps, total_of, block_count, most_bytes, is_pool_full, is_full, map_answer, mapped, beginning_at, begins, unmapped, IsPlaceOf, Gives};
+ghost use Rattle.guest_memory.specs.declared.segment.Segment.{Segment as SegmentValue};
 
 use crate::guest::{GuestMem, MemRefusal};
 use crate::segment::{SegKind, Segment};
@@ -67,7 +68,11 @@ impl Memory {
         if overlaps(self.segments.as_slice(), &segment) {
             return Err(MemRefusal::Overlap);
         }
-        if is_full(self.segments.as_slice(), &segment) {
+        if is_full(
+            self.segments.as_slice(),
+            kind,
+            segment.bytes.as_slice().len() as u64,
+        ) {
             return Err(MemRefusal::Full);
         }
         let place = place_of(self.segments.as_slice(), &segment);
@@ -95,6 +100,84 @@ impl Memory {
         total_in(self.segments.as_slice(), kind)
     }
 
+    /// Whether a segment of a kind begins at an address. Takes no memory.
+    pub fn begins(&self, kind: SegKind, base: u64) -> bool
+        ensures { result ≡ begins kind base self.now }
+    {
+        self.segments
+            .iter()
+            .any(|segment| segment.base == base && segment.kind == kind)
+    }
+
+    /// Whether one more segment of a kind, with so many bytes, would pass a limit: for this `map`
+    /// answers `Full`. Takes no memory.
+    pub fn is_full(&self, kind: SegKind, size: u64) -> bool
+        ensures { result ≡ is_full self.now kind size }
+    {
+        is_full(self.segments.as_slice(), kind, size)
+    }
+
+    /// Where the image begins that has an address; `None` exactly where none has it. Takes no memory.
+    pub fn image_base(&self, at: u64) -> Option<u64>
+        ensures { result ≡ option_map (λ (segment : SegmentValue). segment.base) (image_with self.now at) }
+    {
+        image_of(self.segments.as_slice(), at).map(|segment| segment.base)
+    }
+
+    /// Whether `n` bytes from an address on can be read: one segment has them all, whatever its
+    /// kind. No bytes always can. Takes no memory.
+    pub fn can_read(&self, at: u64, n: u64) -> bool
+        ensures { result ≡ is_readable self.now at n }
+    {
+        n == 0 || holder_of(self.segments.as_slice(), at, n).is_some()
+    }
+
+    /// Whether `n` bytes from an address on can be written: one segment has them all, and the code
+    /// may write it. No bytes always can. Takes no memory.
+    pub fn can_write(&self, at: u64, n: u64) -> bool
+        ensures { result ≡ is_writable_range self.now at n }
+    {
+        let holder = holder_of(self.segments.as_slice(), at, n);
+        n == 0 || holder.is_some_and(|segment| segment.kind.is_writable())
+    }
+
+    /// The `n` bytes from an address on, which can be read (`can_read`). Takes no memory.
+    pub fn bytes(&self, at: u64, n: u64) -> &[u8]
+        requires readable { IsTrue (is_readable self.now at n) }
+        ensures bytes { result.now ≡ bytes_of self.now at n }
+        ensures size { length result.now ≡ n }
+    {
+        match holder_of(self.segments.as_slice(), at, n) {
+            Some(segment) => segment.bytes(at, n),
+            None => &[],
+        }
+    }
+
+    /// Puts bytes in place of those from an address on, which can be written (`can_write`). Nothing
+    /// else changes. Takes no memory.
+    #[tactic(auto, using(crate::proofs::PutLemmas::put_bytes_at, crate::proofs::PutLemmas::put_bytes_nowhere, crate::proofs::PutLemmas::put_bytes_apart))]
+    pub fn put(&mut self, at: u64, bytes: &[u8])
+        requires writable { IsTrue (is_writable_range self.old at (length bytes.now)) }
+        ensures { self.new ≡ put_bytes self.old at bytes.now }
+    {
+        if let Some(place) = place_with(self.segments.as_slice(), at, bytes.len() as u64) {
+            self.segments[place].put_bytes(at, bytes);
+        }
+    }
+
+    /// Puts a byte in place of each of the `n` from an address on, which can be written
+    /// (`can_write`). Nothing else changes. Takes no memory.
+    #[tactic(auto, using(crate::proofs::PutLemmas::filled_at, crate::proofs::PutLemmas::filled_nowhere, crate::proofs::PutLemmas::filled_apart))]
+    pub fn fill(&mut self, at: u64, n: u64, byte: u8)
+        requires writable { IsTrue (is_writable_range self.old at n) }
+        ensures { self.new ≡ put_bytes self.old at (replicate n byte) }
+    {
+        let alloc = *self.segments.allocator();
+        if let Some(place) = place_with(self.segments.as_slice(), at, n) {
+            self.segments[place].fill(alloc, at, n, byte);
+        }
+    }
+
     /// An equal memory.
     pub fn copy(&self) -> Result<Memory, OutOfMemory>
         ensures { IfOk result (λ copy. copy ≡ self.now) }
@@ -116,7 +199,7 @@ impl GuestMem for Memory {
 
     #[inline]
     fn read(&self, at: u64, n: u8) -> Option<u64> {
-        match holder_of(self.segments.as_slice(), at, n) {
+        match holder_of(self.segments.as_slice(), at, u64::from(n)) {
             Some(segment) => Some(segment.number(at, n)),
             None => None,
         }
@@ -138,11 +221,18 @@ impl GuestMem for Memory {
 
 /// The segment that has all the bytes.
 #[inline]
-fn holder_of(segments: &[Segment], at: u64, n: u8) -> Option<&Segment>
+fn holder_of(segments: &[Segment], at: u64, n: u64) -> Option<&Segment>
     ensures found { option_copied result ≡ holder segments.now at n }
     ensures has { IfSome result (λ segment. IsTrue (has_bytes segment.now at n)) }
 {
     segments.iter().find(|segment| segment.has(at, n))
+}
+
+/// Where the segment is that has all the bytes.
+fn place_with(segments: &[Segment], at: u64, n: u64) -> Option<usize>
+    ensures { result ≡ position (λ segment. has_bytes segment at n) segments.now }
+{
+    segments.iter().position(|segment| segment.has(at, n))
 }
 
 fn place_of(segments: &[Segment], segment: &Segment) -> usize
@@ -178,7 +268,7 @@ fn write_in(segments: &mut Vec<Segment>, at: u64, n: u8, value: u64) -> Result<(
 {
     for i in 0..segments.len() {
         let segment = &mut segments[i];
-        if segment.has(at, n) {
+        if segment.has(at, u64::from(n)) {
             if !segment.kind.is_writable() {
                 return Err(MemRefusal::ReadOnly);
             }
@@ -202,13 +292,12 @@ fn meets_any(segments: &[Segment], segment: &Segment) -> bool
     segments.iter().any(|other| segment.meets(other))
 }
 
-/// Whether a segment would have too many bytes, or be one too many.
-fn is_full(segments: &[Segment], segment: &Segment) -> bool
+/// Whether a segment of a kind, with so many bytes, would be too large, or one too many.
+fn is_full(segments: &[Segment], kind: SegKind, size: u64) -> bool
     requires { IsTrue (lie_from 0 segments.now) }
-    ensures { result ≡ is_full segments.now segment.now.kind (length segment.now.bytes) }
+    ensures { result ≡ is_full segments.now kind size }
 {
-    let size = segment.bytes.as_slice().len() as u64;
-    match segment.kind {
+    match kind {
         SegKind::Image => is_over(total_in(segments, SegKind::Image), size),
         SegKind::Pool | SegKind::Firmware => is_pool_full(segments, size),
         SegKind::Stack | SegKind::Table => false,

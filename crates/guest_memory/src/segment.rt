@@ -1,8 +1,10 @@
-ghost use Rattle.std.specs.Prelude.{◌≡◌, ◌≤◌, ◌<◌, ◌+◌, ◌-◌, ◌^◌, ◌++◌, length, drop, IsTrue, not, nat_lt};
-ghost use Rattle.guest_memory.specs.Segment.{is_access, is_writable, is_image, is_block, has_bytes, number_at, with_number, code_at, extent, end_of, meets};
+ghost use Rattle.std.specs.Prelude.{◌≡◌, ◌≤◌, ◌<◌, ◌+◌, ◌-◌, ◌^◌, ◌++◌, length, drop, replicate, IsTrue, not, nat_lt};
+ghost use Rattle.guest_memory.specs.Segment.{is_access, is_writable, is_image, is_block, has_bytes, number_at, bytes_at, with_bytes, with_number, code_at, extent, end_of, meets};
 
 use byteorder::{ByteOrder, LittleEndian};
 use fw_types::Rows;
+use std::alloc::Global;
+use std::mem;
 
 /// What a segment is for.
 #[derive(Clone, Copy, Debug, PartialEq, Eq)]
@@ -58,11 +60,11 @@ impl SegKind {
 impl Segment {
     /// Whether it has all `n` bytes from an address on.
     #[inline]
-    pub(crate) fn has(&self, at: u64, n: u8) -> bool
+    pub(crate) fn has(&self, at: u64, n: u64) -> bool
         ensures { result ≡ has_bytes self.now at n }
     {
         let len = self.bytes.as_slice().len() as u64;
-        self.base <= at && at - self.base <= len && u64::from(n) <= len - (at - self.base)
+        self.base <= at && at - self.base <= len && n <= len - (at - self.base)
     }
 
     /// The number in `n` bytes from an address on.
@@ -97,6 +99,36 @@ impl Segment {
             4 => self.bytes.replace(start, &low[..4]),
             _ => self.bytes.replace(start, &low),
         }
+    }
+
+    /// Its `n` bytes from an address on.
+    pub(crate) fn bytes(&self, at: u64, n: u64) -> &[u8]
+        requires inside { IsTrue (has_bytes self.now at n) }
+        ensures bytes { result.now ≡ bytes_at self.now at n }
+        ensures size { length result.now ≡ n }
+    {
+        let rest = &self.bytes.as_slice()[(at - self.base) as usize..];
+        &rest[..n as usize]
+    }
+
+    /// Puts bytes at an address.
+    pub(crate) fn put_bytes(&mut self, at: u64, bytes: &[u8])
+        requires inside { IsTrue (has_bytes self.old at (length bytes.now)) }
+        ensures { self.new ≡ with_bytes self.old at bytes.now }
+    {
+        let start = (at - self.base) as usize;
+        self.bytes.replace(start, bytes);
+    }
+
+    /// Puts a byte `n` times at an address. Takes no memory.
+    pub(crate) fn fill(&mut self, alloc: Global, at: u64, n: u64, byte: u8)
+        requires inside { IsTrue (has_bytes self.old at n) }
+        ensures { self.new ≡ with_bytes self.old at (replicate n byte) }
+    {
+        let start = (at - self.base) as usize;
+        let mut bytes = mem::replace(&mut self.bytes, Rows::of(Vec::new(alloc))).into_vec();
+        bytes.as_mut_slice()[start..start + n as usize].fill(byte);
+        self.bytes = Rows::of(bytes);
     }
 
     /// Copies the bytes from an address on, at most 18, and says how many there are.

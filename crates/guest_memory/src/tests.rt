@@ -97,6 +97,115 @@ fn reading_and_writing(rt: HostRuntime) -> Result<(), Fail> {
     Ok(())
 }
 
+/// Which ranges can be read and written, and how many bytes are read of them.
+#[test]
+fn ranges(rt: HostRuntime) -> Result<(), Fail> {
+    let memory = three_segments(&rt)?;
+    let vectors: [(u64, u64, bool, bool); 12] = [
+        // at a segment's start, at its end, and all of it
+        (0x1000, 4, true, true),
+        (0x100C, 4, true, true),
+        (0x1010, 0x14, true, true),
+        // across two segments that touch, past an end, and behind it
+        (0x100C, 8, false, false),
+        (0x1020, 5, false, false),
+        (0x1024, 1, false, false),
+        // past 2^64
+        (0x1000, u64::MAX, false, false),
+        (u64::MAX, 2, false, false),
+        // in a table
+        (0x3000, 0x10, true, false),
+        // no bytes, in a segment and in none
+        (0x1008, 0, true, true),
+        (0x3000, 0, true, true),
+        (0x5000, 0, true, true),
+    ];
+    for (at, n, reads, writes) in vectors {
+        assert_eq!(rt; memory.can_read(at, n), reads);
+        assert_eq!(rt; memory.can_write(at, n), writes);
+        if memory.can_read(at, n) {
+            assert_eq!(rt; memory.bytes(at, n).len() as u64, n);
+        }
+    }
+    Ok(())
+}
+
+/// Bytes that are put over one another, one in many places, and none.
+#[test]
+fn putting(rt: HostRuntime) -> Result<(), Fail> {
+    let mut memory = three_segments(&rt)?;
+    let puts: [(u64, &[u8]); 5] = [
+        (0x1004, &[1, 2, 3, 4]),
+        (0x1006, &[5, 6, 7]),
+        (0x100F, &[8]),
+        (0x1010, &[9, 10]),
+        (0x3000, &[]),
+    ];
+    for (at, bytes) in puts {
+        if memory.can_write(at, bytes.len() as u64) {
+            memory.put(at, bytes);
+        }
+    }
+    let fills: [(u64, u64, u8); 3] = [(0x1003, 2, 12), (0x1020, 4, 13), (0x3004, 0, 14)];
+    for (at, n, byte) in fills {
+        if memory.can_write(at, n) {
+            memory.fill(at, n, byte);
+        }
+    }
+    let wanted: [(u64, &[u8]); 5] = [
+        (0x1000, &[17, 17, 17, 12, 12, 2, 5, 6, 7, 17]),
+        (0x100E, &[17, 8]),
+        (0x1010, &[9, 10, 34]),
+        (0x101F, &[34, 13, 13, 13, 13]),
+        (0x3000, &[51, 51, 51, 51, 51, 51]),
+    ];
+    for (at, bytes) in wanted {
+        let n = bytes.len() as u64;
+        assert!(rt; memory.can_read(at, n));
+        assert_eq!(rt; memory.bytes(at, n), bytes);
+    }
+    Ok(())
+}
+
+/// Which segments begin where, and where images begin.
+#[test]
+fn places(rt: HostRuntime) -> Result<(), Fail> {
+    let memory = three_segments(&rt)?;
+    let begins: [(SegKind, u64, bool); 5] = [
+        (SegKind::Pool, 0x1000, true),
+        (SegKind::Firmware, 0x1000, false),
+        (SegKind::Pool, 0x1001, false),
+        (SegKind::Image, 0x1010, true),
+        (SegKind::Table, 0x3000, true),
+    ];
+    for (kind, base, wanted) in begins {
+        assert_eq!(rt; memory.begins(kind, base), wanted);
+    }
+    let bases: [(u64, Option<u64>); 5] = [
+        (0x100f, None),
+        (0x1010, Some(0x1010)),
+        (0x1023, Some(0x1010)),
+        (0x1024, None),
+        (0x3000, None),
+    ];
+    for (at, base) in bases {
+        assert_eq!(rt; memory.image_base(at), base);
+    }
+    // 16 bytes of blocks and 20 of images are there
+    let full: [(SegKind, u64, bool); 6] = [
+        (SegKind::Pool, 67_108_848, false),
+        (SegKind::Firmware, 67_108_849, true),
+        (SegKind::Image, 67_108_844, false),
+        (SegKind::Image, 67_108_845, true),
+        (SegKind::Stack, 67_108_865, false),
+        (SegKind::Table, u64::MAX, false),
+    ];
+    for (kind, size, wanted) in full {
+        assert_eq!(rt; memory.is_full(kind, size), wanted);
+    }
+    Ok(())
+}
+
 #[test]
 fn code(rt: HostRuntime) -> Result<(), Fail> {
     let memory = three_segments(&rt)?;

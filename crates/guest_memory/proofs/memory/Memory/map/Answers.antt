@@ -11,7 +11,7 @@ apart c =
     let segments = c.self.inside.segments.items in
     let new : Segment = record { base = c.args.base; bytes = c.of.result; kind = c.args.kind } in
     let inserted : c.insert.new.self.items ≡ insert segments c.place_of-place.result new = c.in_ok-insert.ensures.items in
-    let placed : insert segments c.place_of-place.result new ≡ mapped new segments = rw c.as_slice-3.ensures.value at c.place_of-place.ensures.place in
+    let placed : insert segments c.place_of-place.result new ≡ mapped new segments = rw c.as_slice-4.ensures.value at c.place_of-place.ensures.place in
     let room : overlaps segments new ≡ false = sym (rw c.as_slice.ensures.value at c.overlaps.ensures) ∙ c.if-overlaps.false in
     ap (lie_from 0) (inserted ∙ placed) ∙ lie_from-mapped_apart new segments c.self.invariant room
 

@@ -1,0 +1,297 @@
+-- Where bytes go that are put at an address, and what they leave as it was.
+use Rattle.std.proofs.Common.{◌≡◌, ◌<◌, ◌-◌, ◌≤◌, ℕ, ◌+◌, max, Bool, true, false, not, ◌&&◌, ◌||◌, cond, List, [], ◌∷◌, ◌++◌, length-append, take, drop, length-take, length-drop, map, filter, set, length, get_or, zero, suc, replicate, refl, ap, sym, ◌∙◌, arith}
+use Rattle.std.specs.List.{list_all, list_any, position, position_or_len}
+use Rattle.std.specs.Option.{is_some}
+use Rattle.std.specs.Prelude.{Option, Some, None}
+use Rattle.std.proofs.lemmas.Bool.{and_parts, not-true}
+use Rattle.std.proofs.lemmas.Bool.Decides.{nat_tests}
+use Rattle.std.proofs.lemmas.List.{append-nil, take-append-drop, length-replicate}
+use Rattle.std.proofs.lemmas.List.Quantifiers.{position-Some}
+use Rattle.guest_memory.specs.Segment.{has_bytes, is_writable, with_bytes, replaced, extent, end_of}
+use Rattle.guest_memory.specs.GuestMemory.{holder, is_readable, is_writable_holder, is_writable_range, bytes_in, bytes_of, put_bytes, layout, lie_from, kind_number}
+use Rattle.guest_memory.specs.declared.segment.Segment.{Segment}
+
+-- bytes in the place of others leave the length
+pub length-replaced : (bytes : List ℕ) (i : ℕ) (others : List ℕ) → i + length others ≤ length bytes → length (replaced bytes i others) ≡ length bytes
+length-replaced bytes i others h =
+    omega (arith, length-append (take i bytes ++ others) (drop (i + length others) bytes), length-append (take i bytes) others, length-take i bytes, length-drop (i + length others) bytes)
+
+-- as many bytes are in the segment as before
+pub length-with_bytes : (segment : Segment) (at : ℕ) (bytes : List ℕ) → has_bytes segment at (length bytes) ≡ true → length (with_bytes segment at bytes).bytes ≡ length segment.bytes
+length-with_bytes segment at bytes has = length-replaced segment.bytes (at - segment.base) bytes (grind (arith, nat_tests))
+
+-- ---- where they go
+
+put_bytes_from : (segments : List Segment) (place at : ℕ) (bytes : List ℕ) (d : Segment) → place < length segments → has_bytes (get_or segments place d) at (length bytes) ≡ true
+    → ((k : ℕ) → k < place → has_bytes (get_or segments k d) at (length bytes) ≡ false)
+    → set segments place (with_bytes (get_or segments place d) at bytes) ≡ put_bytes segments at bytes
+put_bytes_from [] place at bytes d inside has none = absurd (omega (arith, inside))
+put_bytes_from (s ∷ rest) zero at bytes d inside has none = rw has refl
+put_bytes_from (s ∷ rest) (suc place) at bytes d inside has none =
+    let here : has_bytes s at (length bytes) ≡ false = none 0 (omega arith) in
+    rw here (ap (λ others. s ∷ others) (put_bytes_from rest place at bytes d (omega (arith, inside)) has (λ k before. none (suc k) (omega (arith, before)))))
+
+-- the segment at the place has the range
+pub has_bytes_at : (segments : List Segment) (place at n : ℕ) (segment : Segment) → position (λ s. has_bytes s at n) segments ≡ Some place → segment ≡ get_or segments place segment → has_bytes segment at n ≡ true
+has_bytes_at segments place at n segment found is =
+    ap (λ s. has_bytes s at n) is ∙ (position-Some (λ s. has_bytes s at n) segments place segment found).1
+
+-- the first segment that has the range gets the bytes
+pub put_bytes_at : (segments : List Segment) (place at n : ℕ) (bytes : List ℕ) (segment : Segment) → position (λ s. has_bytes s at n) segments ≡ Some place → length bytes ≡ n → segment ≡ get_or segments place segment
+    → set segments place (with_bytes segment at bytes) ≡ put_bytes segments at bytes
+put_bytes_at segments place at n bytes segment found size is =
+    let found : position (λ s. has_bytes s at (length bytes)) segments ≡ Some place = rw size found in
+    let facts = position-Some (λ s. has_bytes s at (length bytes)) segments place segment found in
+    ap (λ s. set segments place (with_bytes s at bytes)) is ∙ put_bytes_from segments place at bytes segment facts.0 facts.1 facts.2
+
+nowhere-more : (s : Segment) (rest : List Segment) (at : ℕ) (bytes : List ℕ) (has : Bool)
+    → (length rest ≤ position_or_len (λ s. has_bytes s at (length bytes)) rest → put_bytes rest at bytes ≡ rest)
+    → suc (length rest) ≤ cond (not has) (1 + position_or_len (λ s. has_bytes s at (length bytes)) rest) 0
+    → cond has (with_bytes s at bytes ∷ rest) (s ∷ put_bytes rest at bytes) ≡ s ∷ rest
+nowhere-more s rest at bytes true later none = absurd (omega (arith, none))
+nowhere-more s rest at bytes false later none = ap (λ others. s ∷ others) (later (omega (arith, none)))
+
+put_bytes_past : (segments : List Segment) (at : ℕ) (bytes : List ℕ) → length segments ≤ position_or_len (λ s. has_bytes s at (length bytes)) segments → put_bytes segments at bytes ≡ segments
+put_bytes_past [] at bytes none = refl
+put_bytes_past (s ∷ rest) at bytes none = nowhere-more s rest at bytes (has_bytes s at (length bytes)) (put_bytes_past rest at bytes) none
+
+-- where no segment has the range, nothing changes
+pub put_bytes_nowhere : (segments : List Segment) (at : ℕ) (bytes : List ℕ) → position (λ s. has_bytes s at (length bytes)) segments ≡ None → put_bytes segments at bytes ≡ segments
+put_bytes_nowhere segments at bytes none = put_bytes_past segments at bytes (grind (arith, nat_tests))
+
+-- ---- one byte in each place
+
+pub filled_at : (segments : List Segment) (place at n byte : ℕ) (segment : Segment) → position (λ s. has_bytes s at n) segments ≡ Some place → segment ≡ get_or segments place segment
+    → set segments place (with_bytes segment at (replicate n byte)) ≡ put_bytes segments at (replicate n byte)
+filled_at segments place at n byte segment found is = put_bytes_at segments place at n (replicate n byte) segment found (length-replicate n byte) is
+
+pub filled_nowhere : (segments : List Segment) (at n byte : ℕ) → position (λ s. has_bytes s at n) segments ≡ None → put_bytes segments at (replicate n byte) ≡ segments
+filled_nowhere segments at n byte none =
+    put_bytes_nowhere segments at (replicate n byte) (ap (λ (size : ℕ). position (λ s. has_bytes s at size) segments) (length-replicate n byte) ∙ none)
+
+-- ---- what stays
+
+-- as many bytes are there as before
+extent-with_bytes : (segment : Segment) (at : ℕ) (bytes : List ℕ) → has_bytes segment at (length bytes) ≡ true → extent (with_bytes segment at bytes) ≡ extent segment
+extent-with_bytes segment at bytes has = ap (max 1) (length-with_bytes segment at bytes has)
+
+lie_from-put_bytes-more : (from : ℕ) (segment : Segment) (segments : List Segment) (at : ℕ) (bytes : List ℕ) → lie_from (end_of segment) (put_bytes segments at bytes) ≡ lie_from (end_of segment) segments
+    → lie_from from (put_bytes (segment ∷ segments) at bytes) ≡ lie_from from (segment ∷ segments)
+lie_from-put_bytes-more from segment segments at bytes rest = grind (arith, rest, extent-with_bytes segment at bytes)
+
+-- where the segments lie
+pub lie_from-put_bytes : (from : ℕ) (segments : List Segment) (at : ℕ) (bytes : List ℕ) → lie_from from (put_bytes segments at bytes) ≡ lie_from from segments
+lie_from-put_bytes from [] at bytes = refl
+lie_from-put_bytes from (segment ∷ segments) at bytes =
+    lie_from-put_bytes-more from segment segments at bytes (lie_from-put_bytes (end_of segment) segments at bytes)
+
+-- so they still lie apart, once the segment at the place has the bytes
+pub put_bytes_apart : (segments : List Segment) (place at n : ℕ) (bytes : List ℕ) (segment : Segment) → position (λ s. has_bytes s at n) segments ≡ Some place → length bytes ≡ n → segment ≡ get_or segments place segment
+    → lie_from 0 segments ≡ true → lie_from 0 (set segments place (with_bytes segment at bytes)) ≡ true
+put_bytes_apart segments place at n bytes segment found size is lies =
+    ap (lie_from 0) (put_bytes_at segments place at n bytes segment found size is) ∙ lie_from-put_bytes 0 segments at bytes ∙ lies
+
+pub filled_apart : (segments : List Segment) (place at n byte : ℕ) (segment : Segment) → position (λ s. has_bytes s at n) segments ≡ Some place → segment ≡ get_or segments place segment
+    → lie_from 0 segments ≡ true → lie_from 0 (set segments place (with_bytes segment at (replicate n byte))) ≡ true
+filled_apart segments place at n byte segment found is lies = put_bytes_apart segments place at n (replicate n byte) segment found (length-replicate n byte) is lies
+
+-- no bytes change nothing
+with_bytes-none : (segment : Segment) (at : ℕ) → with_bytes segment at [] ≡ segment
+with_bytes-none segment at =
+    let start = at - segment.base in
+    let same : start + 0 ≡ start = omega arith in
+    let whole : replaced segment.bytes start [] ≡ segment.bytes = rw (same, append-nil (take start segment.bytes)) (take-append-drop start segment.bytes) in
+    ap (λ (bytes : List ℕ). record segment { bytes = bytes }) whole
+
+put_bytes-none-more : (has : Bool) (segment : Segment) (segments : List Segment) (at : ℕ) → put_bytes segments at [] ≡ segments
+    → cond has (with_bytes segment at [] ∷ segments) (segment ∷ put_bytes segments at []) ≡ segment ∷ segments
+put_bytes-none-more true segment segments at rest = ap (λ first. first ∷ segments) (with_bytes-none segment at)
+put_bytes-none-more false segment segments at rest = ap (λ others. segment ∷ others) rest
+
+pub put_bytes-none : (segments : List Segment) (at : ℕ) → put_bytes segments at [] ≡ segments
+put_bytes-none [] at = refl
+put_bytes-none (segment ∷ segments) at = put_bytes-none-more (has_bytes segment at 0) segment segments at (put_bytes-none segments at)
+
+-- ---- tests and parts of segments
+
+-- what a segment gives does not depend on its bytes, but may on how many there are
+abbrev pub IgnoresBytes : {B : Type 0} → (Segment → B) → Type 0
+IgnoresBytes {B} f = (segment : Segment) (bytes : List ℕ) → length bytes ≡ length segment.bytes → f (record segment { bytes = bytes }) ≡ f segment
+
+list_all-put_bytes-more : (P : Segment → Bool) (segment : Segment) (segments : List Segment) (at : ℕ) (bytes : List ℕ) (has : Bool) → has_bytes segment at (length bytes) ≡ has → IgnoresBytes P
+    → list_all P (put_bytes segments at bytes) ≡ list_all P segments
+    → list_all P (cond has (with_bytes segment at bytes ∷ segments) (segment ∷ put_bytes segments at bytes)) ≡ list_all P (segment ∷ segments)
+list_all-put_bytes-more P segment segments at bytes true has ignores rest =
+    ap (λ b. b && list_all P segments) (ignores segment (with_bytes segment at bytes).bytes (length-with_bytes segment at bytes has))
+list_all-put_bytes-more P segment segments at bytes false has ignores rest = ap (λ b. P segment && b) rest
+
+pub list_all-put_bytes : (P : Segment → Bool) (segments : List Segment) (at : ℕ) (bytes : List ℕ) → IgnoresBytes P → list_all P (put_bytes segments at bytes) ≡ list_all P segments
+list_all-put_bytes P [] at bytes ignores = refl
+list_all-put_bytes P (segment ∷ segments) at bytes ignores =
+    list_all-put_bytes-more P segment segments at bytes (has_bytes segment at (length bytes)) refl ignores (list_all-put_bytes P segments at bytes ignores)
+
+list_any-put_bytes-more : (P : Segment → Bool) (segment : Segment) (segments : List Segment) (at : ℕ) (bytes : List ℕ) (has : Bool) → has_bytes segment at (length bytes) ≡ has → IgnoresBytes P
+    → list_any P (put_bytes segments at bytes) ≡ list_any P segments
+    → list_any P (cond has (with_bytes segment at bytes ∷ segments) (segment ∷ put_bytes segments at bytes)) ≡ list_any P (segment ∷ segments)
+list_any-put_bytes-more P segment segments at bytes true has ignores rest =
+    ap (λ b. b || list_any P segments) (ignores segment (with_bytes segment at bytes).bytes (length-with_bytes segment at bytes has))
+list_any-put_bytes-more P segment segments at bytes false has ignores rest = ap (λ b. P segment || b) rest
+
+pub list_any-put_bytes : (P : Segment → Bool) (segments : List Segment) (at : ℕ) (bytes : List ℕ) → IgnoresBytes P → list_any P (put_bytes segments at bytes) ≡ list_any P segments
+list_any-put_bytes P [] at bytes ignores = refl
+list_any-put_bytes P (segment ∷ segments) at bytes ignores =
+    list_any-put_bytes-more P segment segments at bytes (has_bytes segment at (length bytes)) refl ignores (list_any-put_bytes P segments at bytes ignores)
+
+-- a part of each segment that passes a test
+filter-cons : (P : Segment → Bool) (is : Bool) (segment : Segment) (segments : List Segment) → P segment ≡ is → filter P (segment ∷ segments) ≡ cond is (segment ∷ filter P segments) (filter P segments)
+filter-cons P true segment segments h = rw h refl
+filter-cons P false segment segments h = rw h refl
+
+parts-cons : {B : Type 0} (P : Segment → Bool) (f : Segment → B) (is : Bool) (segment : Segment) (segments : List Segment) → P segment ≡ is
+    → map f (filter P (segment ∷ segments)) ≡ cond is (f segment ∷ map f (filter P segments)) (map f (filter P segments))
+parts-cons P f true segment segments h = ap (map f) (filter-cons P true segment segments h)
+parts-cons P f false segment segments h = ap (map f) (filter-cons P false segment segments h)
+
+parts-put_bytes-more : {B : Type 0} (P : Segment → Bool) (f : Segment → B) (segment : Segment) (segments : List Segment) (at : ℕ) (bytes : List ℕ) (has : Bool) → has_bytes segment at (length bytes) ≡ has → IgnoresBytes P → IgnoresBytes f
+    → map f (filter P (put_bytes segments at bytes)) ≡ map f (filter P segments)
+    → map f (filter P (cond has (with_bytes segment at bytes ∷ segments) (segment ∷ put_bytes segments at bytes))) ≡ map f (filter P (segment ∷ segments))
+parts-put_bytes-more P f segment segments at bytes true has test part rest =
+    let size = length-with_bytes segment at bytes has in
+    let new = with_bytes segment at bytes in
+    let others = map f (filter P segments) in
+    parts-cons P f (P segment) new segments (test segment new.bytes size) ∙ ap (λ first. cond (P segment) (first ∷ others) others) (part segment new.bytes size) ∙ sym (parts-cons P f (P segment) segment segments refl)
+parts-put_bytes-more P f segment segments at bytes false has test part rest =
+    parts-cons P f (P segment) segment (put_bytes segments at bytes) refl ∙ ap (λ others. cond (P segment) (f segment ∷ others) others) rest ∙ sym (parts-cons P f (P segment) segment segments refl)
+
+pub parts-put_bytes : {B : Type 0} (P : Segment → Bool) (f : Segment → B) (segments : List Segment) (at : ℕ) (bytes : List ℕ) → IgnoresBytes P → IgnoresBytes f
+    → map f (filter P (put_bytes segments at bytes)) ≡ map f (filter P segments)
+parts-put_bytes P f [] at bytes test part = refl
+parts-put_bytes P f (segment ∷ segments) at bytes test part =
+    parts-put_bytes-more P f segment segments at bytes (has_bytes segment at (length bytes)) refl test part (parts-put_bytes P f segments at bytes test part)
+
+map-put_bytes-more : {B : Type 0} (f : Segment → B) (segment : Segment) (segments : List Segment) (at : ℕ) (bytes : List ℕ) (has : Bool) → has_bytes segment at (length bytes) ≡ has → IgnoresBytes f
+    → map f (put_bytes segments at bytes) ≡ map f segments
+    → map f (cond has (with_bytes segment at bytes ∷ segments) (segment ∷ put_bytes segments at bytes)) ≡ map f (segment ∷ segments)
+map-put_bytes-more f segment segments at bytes true has part rest =
+    ap (λ first. first ∷ map f segments) (part segment (with_bytes segment at bytes).bytes (length-with_bytes segment at bytes has))
+map-put_bytes-more f segment segments at bytes false has part rest = ap (λ others. f segment ∷ others) rest
+
+-- a part of each segment
+pub map-put_bytes : {B : Type 0} (f : Segment → B) (segments : List Segment) (at : ℕ) (bytes : List ℕ) → IgnoresBytes f → map f (put_bytes segments at bytes) ≡ map f segments
+map-put_bytes f [] at bytes part = refl
+map-put_bytes f (segment ∷ segments) at bytes part =
+    map-put_bytes-more f segment segments at bytes (has_bytes segment at (length bytes)) refl part (map-put_bytes f segments at bytes part)
+
+-- where the segments lie, how long they are and of which kinds
+pub layout-put_bytes : (segments : List Segment) (at : ℕ) (bytes : List ℕ) → layout (put_bytes segments at bytes) ≡ layout segments
+layout-put_bytes segments at bytes =
+    map-put_bytes (λ (s : Segment). (s.base, length s.bytes, kind_number s.kind)) segments at bytes (λ s others same. ap (λ (size : ℕ). (s.base, size, kind_number s.kind)) same)
+
+-- ---- segments that the code may not write
+
+abbrev is_fixed : Segment → Bool
+is_fixed s = not (is_writable s.kind)
+
+-- some bytes can be written only in a segment that the code may write
+holder_writable : (segments : List Segment) (at byte : ℕ) (bytes : List ℕ) → is_writable_range segments at (length (byte ∷ bytes)) ≡ true → is_writable_holder (holder segments at (length (byte ∷ bytes))) ≡ true
+holder_writable segments at byte bytes can = grind (arith, nat_tests, can)
+
+fixed-put_bytes-more : (s : Segment) (rest : List Segment) (at : ℕ) (bytes : List ℕ) (has writable : Bool) → has_bytes s at (length bytes) ≡ has → is_writable s.kind ≡ writable
+    → is_writable_holder (cond has (Some s) (holder rest at (length bytes))) ≡ true
+    → (is_writable_holder (holder rest at (length bytes)) ≡ true → filter is_fixed (put_bytes rest at bytes) ≡ filter is_fixed rest)
+    → filter is_fixed (cond has (with_bytes s at bytes ∷ rest) (s ∷ put_bytes rest at bytes)) ≡ filter is_fixed (s ∷ rest)
+fixed-put_bytes-more s rest at bytes true true has is can later =
+    filter-cons is_fixed false (with_bytes s at bytes) rest (ap not is) ∙ sym (filter-cons is_fixed false s rest (ap not is))
+fixed-put_bytes-more s rest at bytes true false has is can later = absurd (grind (arith, is, can))
+fixed-put_bytes-more s rest at bytes false writable has is can later =
+    filter-cons is_fixed (not writable) s (put_bytes rest at bytes) (ap not is) ∙ ap (λ others. cond (not writable) (s ∷ others) others) (later can) ∙ sym (filter-cons is_fixed (not writable) s rest (ap not is))
+
+fixed_there : (segments : List Segment) (at : ℕ) (bytes : List ℕ) → is_writable_holder (holder segments at (length bytes)) ≡ true → filter is_fixed (put_bytes segments at bytes) ≡ filter is_fixed segments
+fixed_there [] at bytes can = refl
+fixed_there (s ∷ rest) at bytes can =
+    fixed-put_bytes-more s rest at bytes (has_bytes s at (length bytes)) (is_writable s.kind) refl refl can (λ later. fixed_there rest at bytes later)
+
+-- they are as before, where the bytes can be written
+pub fixed-put_bytes : (segments : List Segment) (at : ℕ) (bytes : List ℕ) → is_writable_range segments at (length bytes) ≡ true → filter is_fixed (put_bytes segments at bytes) ≡ filter is_fixed segments
+fixed-put_bytes segments at [] can = ap (filter is_fixed) (put_bytes-none segments at)
+fixed-put_bytes segments at (byte ∷ bytes) can = fixed_there segments at (byte ∷ bytes) (holder_writable segments at byte bytes can)
+
+behind-more : (s : Segment) (rest : List Segment) (at : ℕ) (bytes : List ℕ) (has : Bool) → is_writable s.kind ≡ false → is_writable_holder (cond has (Some s) (holder rest at (length bytes))) ≡ true
+    → (is_writable_holder (holder rest at (length bytes)) ≡ true) × (cond has (with_bytes s at bytes ∷ rest) (s ∷ put_bytes rest at bytes) ≡ s ∷ put_bytes rest at bytes)
+behind-more s rest at bytes true fixed can = absurd (grind (arith, fixed, can))
+behind-more s rest at bytes false fixed can = (can, refl)
+
+behind_there : (front rest : List Segment) (at : ℕ) (bytes : List ℕ) → list_all is_fixed front ≡ true → is_writable_holder (holder (front ++ rest) at (length bytes)) ≡ true
+    → put_bytes (front ++ rest) at bytes ≡ front ++ put_bytes rest at bytes
+behind_there [] rest at bytes fixed can = refl
+behind_there (s ∷ front) rest at bytes fixed can =
+    let parts = and_parts (is_fixed s) (list_all is_fixed front) fixed in
+    let one = behind-more s (front ++ rest) at bytes (has_bytes s at (length bytes)) (not-true (is_writable s.kind) parts.0) can in
+    one.1 ∙ ap (λ others. s ∷ others) (behind_there front rest at bytes parts.1 one.0)
+
+-- what is put is behind such segments that stand in front
+pub put_bytes-behind : (front rest : List Segment) (at : ℕ) (bytes : List ℕ) → list_all is_fixed front ≡ true → is_writable_range (front ++ rest) at (length bytes) ≡ true
+    → put_bytes (front ++ rest) at bytes ≡ front ++ put_bytes rest at bytes
+put_bytes-behind front rest at [] fixed can = put_bytes-none (front ++ rest) at ∙ ap (λ others. front ++ others) (sym (put_bytes-none rest at))
+put_bytes-behind front rest at (byte ∷ bytes) fixed can = behind_there front rest at (byte ∷ bytes) fixed (holder_writable (front ++ rest) at byte bytes can)
+
+keeps-more : (s : Segment) (rest : List Segment) (at : ℕ) (bytes : List ℕ) (i : ℕ) (d : Segment) (has : Bool) → is_writable_holder (cond has (Some s) (holder rest at (length bytes))) ≡ true → is_writable (get_or (s ∷ rest) i d).kind ≡ false
+    → ((j : ℕ) → is_writable_holder (holder rest at (length bytes)) ≡ true → is_writable (get_or rest j d).kind ≡ false → get_or (put_bytes rest at bytes) j d ≡ get_or rest j d)
+    → get_or (cond has (with_bytes s at bytes ∷ rest) (s ∷ put_bytes rest at bytes)) i d ≡ get_or (s ∷ rest) i d
+keeps-more s rest at bytes zero d true can fixed later = absurd (grind (arith, fixed, can))
+keeps-more s rest at bytes (suc i) d true can fixed later = refl
+keeps-more s rest at bytes zero d false can fixed later = refl
+keeps-more s rest at bytes (suc i) d false can fixed later = later i can fixed
+
+keeps_there : (segments : List Segment) (at : ℕ) (bytes : List ℕ) (d : Segment) (i : ℕ) → is_writable_holder (holder segments at (length bytes)) ≡ true → is_writable (get_or segments i d).kind ≡ false
+    → get_or (put_bytes segments at bytes) i d ≡ get_or segments i d
+keeps_there [] at bytes d i can fixed = refl
+keeps_there (s ∷ rest) at bytes d i can fixed = keeps-more s rest at bytes i d (has_bytes s at (length bytes)) can fixed (λ j there kind. keeps_there rest at bytes d j there kind)
+
+-- each of them is as before at its place
+pub get_or-put_bytes_fixed : (segments : List Segment) (at : ℕ) (bytes : List ℕ) (d : Segment) (i : ℕ) → is_writable_range segments at (length bytes) ≡ true → is_writable (get_or segments i d).kind ≡ false
+    → get_or (put_bytes segments at bytes) i d ≡ get_or segments i d
+get_or-put_bytes_fixed segments at [] d i can fixed = ap (λ s. get_or s i d) (put_bytes-none segments at)
+get_or-put_bytes_fixed segments at (byte ∷ bytes) d i can fixed = keeps_there segments at (byte ∷ bytes) d i (holder_writable segments at byte bytes can) fixed
+
+apart-more : (s : Segment) (rest : List Segment) (at : ℕ) (bytes : List ℕ) (i : ℕ) (d : Segment) (has : Bool) → has_bytes s at (length bytes) ≡ has → has_bytes (get_or (s ∷ rest) i d) at (length bytes) ≡ false
+    → ((j : ℕ) → has_bytes (get_or rest j d) at (length bytes) ≡ false → get_or (put_bytes rest at bytes) j d ≡ get_or rest j d)
+    → get_or (cond has (with_bytes s at bytes ∷ rest) (s ∷ put_bytes rest at bytes)) i d ≡ get_or (s ∷ rest) i d
+apart-more s rest at bytes zero d true has without later = absurd (grind (arith, has, without))
+apart-more s rest at bytes (suc i) d true has without later = refl
+apart-more s rest at bytes zero d false has without later = refl
+apart-more s rest at bytes (suc i) d false has without later = later i without
+
+-- so is each segment, below and above, that does not have the range
+pub get_or-put_bytes_without : (segments : List Segment) (at : ℕ) (bytes : List ℕ) (d : Segment) (i : ℕ) → has_bytes (get_or segments i d) at (length bytes) ≡ false
+    → get_or (put_bytes segments at bytes) i d ≡ get_or segments i d
+get_or-put_bytes_without [] at bytes d i without = refl
+get_or-put_bytes_without (s ∷ rest) at bytes d i without =
+    apart-more s rest at bytes i d (has_bytes s at (length bytes)) refl without (λ j none. get_or-put_bytes_without rest at bytes d j none)
+
+-- ---- bytes that are read
+
+-- no bytes, wherever they are
+pub bytes_of-none : (segments : List Segment) (at : ℕ) → bytes_of segments at 0 ≡ []
+bytes_of-none segments at = of_holder (holder segments at 0)
+  where
+    of_holder : (found : Option Segment) → bytes_in found at 0 ≡ []
+    of_holder None = refl
+    of_holder (Some segment) = refl
+
+bytes_held-more : (s : Segment) (rest : List Segment) (at n : ℕ) (has : Bool) → has_bytes s at n ≡ has → is_some (cond has (Some s) (holder rest at n)) ≡ true
+    → (is_some (holder rest at n) ≡ true → length (bytes_of rest at n) ≡ n)
+    → length (bytes_in (cond has (Some s) (holder rest at n)) at n) ≡ n
+bytes_held-more s rest at n true has some later =
+    let inside : at - s.base + n ≤ length s.bytes = grind (arith, nat_tests, has) in
+    omega (arith, inside, length-take n (drop (at - s.base) s.bytes), length-drop (at - s.base) s.bytes)
+bytes_held-more s rest at n false has some later = later some
+
+bytes_held : (segments : List Segment) (at n : ℕ) → is_some (holder segments at n) ≡ true → length (bytes_of segments at n) ≡ n
+bytes_held [] at n some = absurd (grind (arith, some))
+bytes_held (s ∷ rest) at n some = bytes_held-more s rest at n (has_bytes s at n) refl some (λ there. bytes_held rest at n there)
+
+-- as many as are asked for, where they can be read
+pub length-bytes_of : (segments : List Segment) (at n : ℕ) → is_readable segments at n ≡ true → length (bytes_of segments at n) ≡ n
+length-bytes_of segments at zero can = ap length (bytes_of-none segments at)
+length-bytes_of segments at (suc n) can = bytes_held segments at (suc n) (grind (arith, nat_tests, can))
