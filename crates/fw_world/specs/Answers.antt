@@ -1,0 +1,22 @@
+-- What stays where a call of the world is refused.
+use Rattle.std.specs.Prelude.{◌≡◌, Result, Ok, Err}
+use Rattle.handle_db.specs.declared.refusal.DbRefusal.{DbRefusal}
+use Rattle.handle_db.specs.declared.refusal.DbRefusal.TheVariants as refusal
+use Rattle.world_model.specs.declared.fault.WorldFault.{WorldFault}
+use Rattle.world_model.specs.declared.fault.WorldFault.TheVariants.{Full, NotThere, OutOfMemory}
+
+-- After a refusal other than want of memory all is as before.
+abbrev pub AsBefore : {T W : Type 0} → Result T WorldFault → W → W → Type 0
+AsBefore (Ok value) old new = Unit {0}
+AsBefore (Err Full) old new = new ≡ old
+AsBefore (Err NotThere) old new = new ≡ old
+AsBefore (Err OutOfMemory) old new = Unit {0}
+
+-- The same of the database's refusals.
+abbrev pub AsBeforeRefusal : {T W : Type 0} → Result T DbRefusal → W → W → Type 0
+AsBeforeRefusal (Ok value) old new = Unit {0}
+AsBeforeRefusal (Err refusal.BadHandle) old new = new ≡ old
+AsBeforeRefusal (Err refusal.Already) old new = new ≡ old
+AsBeforeRefusal (Err refusal.Full) old new = new ≡ old
+AsBeforeRefusal (Err refusal.NotThere) old new = new ≡ old
+AsBeforeRefusal (Err refusal.OutOfMemory) old new = Unit {0}

@@ -1,0 +1,26 @@
+//! The one state of the firmware, the world: what drivers see of memory, the handle database, the
+//! images that are loaded and the thunks into them, and beside them the units and the events of the command at hand.
+//!
+//! A contract sees a `World` as the record `Held` of `world_model`: the state now, and the soft parts
+//! that its open marks keep. Each call that changes it says by its clause `now` which single change of
+//! `world_model` it is, and by its clause `kept` that no mark keeps anything else than before.
+#![tactic(auto)]
+
+mod cap;
+mod database;
+mod image_block;
+mod mapping;
+mod mark;
+mod soft_part;
+mod stack;
+mod tables;
+mod thunks;
+mod world;
+
+pub use cap::Cap;
+pub use mark::Mark;
+pub use world::World;
+pub use world_model::{LoadedImage, WorldFault};
+
+#[cfg(test)]
+mod tests;

@@ -1,0 +1,36 @@
+//! The memory of the opening state: the firmware's tables.
+ghost use Rattle.std.specs.Prelude.{◌≡◌, IfOk};
+ghost use Rattle.world_model.specs.Tables.{tables as all_tables};
+
+use crate::image_block::{ImageInfo, binding_bytes, block_bytes};
+use crate::mapping::map_free;
+use fw_types::OutOfMemory;
+use guest_memory::{Memory, SegKind};
+use service_thunks::{boot_table, system_table};
+use std::alloc::Global;
+use world_model::addresses::{BOOT_SERVICES, BUS_BINDING, FIRMWARE_IMAGE, SYSTEM_TABLE};
+
+/// The loaded image block of the firmware, which no image loaded and which has no bytes of its own.
+const FIRMWARE: ImageInfo = ImageInfo {
+    parent: 0,
+    device: 0,
+    base: 0,
+    size: 0,
+    subsystem: 11,
+};
+
+/// Memory with the tables of the firmware.
+pub fn tables(alloc: Global) -> Result<Memory, OutOfMemory>
+    ensures { IfOk result (λ memory. memory ≡ all_tables) }
+{
+    let mut memory = Memory::new(alloc);
+    let system = Vec::from_slice(alloc, &system_table())?;
+    map_free(&mut memory, SYSTEM_TABLE, system, SegKind::Table)?;
+    let boot = Vec::from_slice(alloc, &boot_table())?;
+    map_free(&mut memory, BOOT_SERVICES, boot, SegKind::Table)?;
+    let binding = Vec::from_slice(alloc, &binding_bytes())?;
+    map_free(&mut memory, BUS_BINDING, binding, SegKind::Table)?;
+    let firmware = Vec::from_slice(alloc, &block_bytes(&FIRMWARE))?;
+    map_free(&mut memory, FIRMWARE_IMAGE, firmware, SegKind::Table)?;
+    Ok(memory)
+}

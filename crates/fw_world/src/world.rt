@@ -1,0 +1,578 @@
+ghost use Rattle.std.specs.Prelude.{◌≡◌, ◌+◌, ◌^◌, ◌<◌, ◌≤◌, false, true, nat_le, IfOk, OnOk, Ok, is_some, length, replicate, if◌then◌else◌};
+ghost use Rattle.guest_memory.specs.Segment.{is_block};
+ghost use Rattle.guest_memory.specs.GuestMemory.{bytes_of, is_readable, is_writable_range, put_bytes};
+ghost use Rattle.handle_db.specs.Database.{Gives as GivesDb};
+ghost use Rattle.world_model.specs.declared.addresses.TheConstants.{MOST_LEVELS as most_levels, MOST_LISTED as most_listed, MOST_MARKS as most_marks};
+ghost use Rattle.world_model.specs.World.{on_hard, on_soft, with_memory, with_tpl};
+ghost use Rattle.world_model.specs.Faults.{Gives};
+ghost use Rattle.world_model.specs.Blocks.{allot_answer, block_added, block_freed, free_answer};
+ghost use Rattle.world_model.specs.Interfaces.{install_answer, interface as interface_value, interface_added, interface_removed, is_lasting, uninstall_answer};
+ghost use Rattle.world_model.specs.Images.{add_answer, drop_answer, entry_of as entry_value, image_added, image_at as image_value, image_dropped};
+ghost use Rattle.world_model.specs.Thunks.{thunk_answer, thunk_at as thunk_value, thunk_made};
+ghost use Rattle.world_model.specs.Stacks.{frame, has_stack, is_kept_stack, stack_popped, stack_pushed};
+ghost use Rattle.world_model.specs.Units.{set_aside, units_capped, units_returned, units_spent};
+ghost use Rattle.world_model.specs.Events.{command_begun, event_begun, event_ended, events_taken, next_serial};
+ghost use Rattle.world_model.specs.Marks.{committed, depth, kept_stacks, marked, rolled_back, stacks};
+ghost use Rattle.world_model.specs.Kept.{IsKept};
+ghost use Rattle.world_model.specs.Opening.{opening};
+ghost use Rattle.fw_world.specs.Answers.{AsBefore, AsBeforeRefusal};
+
+use crate::cap::Cap;
+use crate::mark::Mark;
+use crate::soft_part::SoftPart;
+use ebc_machine::Cpu;
+use fw_types::{Event, EventKind, Guid, Handle, OutOfMemory, Outcome, Status};
+use guest_memory::{GuestMem, MemRefusal, SegKind};
+use handle_db::{Db, DbRefusal};
+use std::alloc::Global;
+use std::marker::Model;
+use world_model::WorldFault;
+
+/// The one state of the firmware: a soft part, which a mark keeps and a rollback puts back, and beside
+/// it the units that may still be spent and the events of the command, which no rollback touches.
+///
+/// After want of memory nothing is promised of a world but that it can be dropped.
+#[derive(Drop)]
+pub struct World {
+    alloc: Global,
+    soft: SoftPart,
+    units: u64,
+    events: Vec<Event>,
+    marks: Vec<SoftPart>,
+}
+
+impl Model for World {
+    ghost use Rattle.std.specs.Prelude.{◌≡◌, reverse, true};
+    ghost use Rattle.world_model.specs.World.{Held};
+    ghost use Rattle.world_model.specs.Events.{are_numbered};
+
+    ghost Value = { Held };
+
+    ghost view = { λ inside. record {
+      now = record {
+        soft = inside.soft;
+        hard = record { units = inside.units; events = inside.events.items };
+      };
+      kept = reverse inside.marks.items;
+    } };
+
+    ghost invariant = { λ inside. are_numbered 1 inside.events.items ≡ true };
+}
+
+impl World {
+    /// The opening state: handle 1 is the firmware with its loaded image, handle 2 the PCI bus driver
+    /// with its binding, and the firmware's tables are mapped. No command has begun.
+    ///
+    /// # Errors
+    ///
+    /// `OutOfMemory` where there is no memory.
+    pub fn new(alloc: Global) -> Result<World, OutOfMemory>
+        ensures { IfOk result (λ world. world ≡ opening) }
+    {
+        Ok(World {
+            alloc,
+            soft: SoftPart::new(alloc)?,
+            units: 0,
+            events: Vec::new(alloc),
+            marks: Vec::new(alloc),
+        })
+    }
+
+    /// The allocator of the world.
+    pub fn alloc(&self) -> Global {
+        self.alloc
+    }
+
+    /// What holds of every world: no two segments meet and each lies where its kind may, the firmware's
+    /// tables are there with their bytes, the database is sound with the interfaces of the firmware and
+    /// of the bus driver, and each image has its segment, its loaded image block and its interface.
+    pub fn is_kept(&self)
+        ensures { IsKept self.now.now.soft }
+    {
+        self.soft.is_kept();
+    }
+
+    // ---- the task priority level
+
+    /// The task priority level (UEFI 2.8, 'Event, Timer, and Task Priority Services').
+    pub fn tpl(&self) -> u8
+        ensures { result ≡ self.now.now.soft.tpl }
+    {
+        self.soft.tpl()
+    }
+
+    /// Sets the task priority level.
+    ///
+    /// # Errors
+    ///
+    /// `OutOfMemory` where there is no memory.
+    pub fn set_tpl(&mut self, tpl: u8) -> Result<(), OutOfMemory>
+        ensures now { OnOk result (self.new.now ≡ on_soft (with_tpl tpl) self.old.now) }
+        ensures kept { OnOk result (self.new.kept ≡ self.old.kept) }
+    {
+        self.soft.set_tpl(tpl);
+        Ok(())
+    }
+
+    // ---- blocks of the pool and of the firmware
+
+    /// Makes a block of these bytes at the next address, and answers its address. `kind` is `Pool` or
+    /// `Firmware`. The block takes its size rounded up to 16 bytes of the addresses, and at least 16.
+    ///
+    /// # Errors
+    ///
+    /// `Full` where all blocks would have more than 67,108,864 bytes or be more than 65,536, or the
+    /// block would pass 2^62; `OutOfMemory` where there is no memory.
+    pub fn allot(&mut self, bytes: Vec<u8>, kind: SegKind) -> Result<u64, WorldFault>
+        requires { is_block kind ≡ true }
+        ensures answer { Gives result (allot_answer (length bytes.items) self.old.now.soft) }
+        ensures now { OnOk result (self.new.now ≡ on_soft (block_added bytes.items kind) self.old.now) }
+        ensures kept { OnOk result (self.new.kept ≡ self.old.kept) }
+        ensures refused { AsBefore result self.old self.new }
+    {
+        self.soft.allot(bytes, kind)
+    }
+
+    /// Takes out the block of the kind that begins at an address. `kind` is `Pool` or `Firmware`.
+    ///
+    /// # Errors
+    ///
+    /// `NotThere` where no segment of that kind begins there, or a loaded image block does;
+    /// `OutOfMemory` where there is no memory.
+    pub fn free(&mut self, at: u64, kind: SegKind) -> Result<(), WorldFault>
+        requires { is_block kind ≡ true }
+        ensures answer { Gives result (free_answer at kind self.old.now.soft) }
+        ensures now { OnOk result (self.new.now ≡ on_soft (block_freed at) self.old.now) }
+        ensures kept { OnOk result (self.new.kept ≡ self.old.kept) }
+        ensures refused { AsBefore result self.old self.new }
+    {
+        self.soft.free(at, kind)
+    }
+
+    // ---- ranges of bytes
+
+    /// Whether `n` bytes from an address on can be read: one segment has them all, whatever its kind.
+    /// No bytes always can. Takes no memory.
+    pub fn can_read(&self, at: u64, n: u64) -> bool
+        ensures { result ≡ is_readable self.now.now.soft.memory at n }
+    {
+        self.soft.can_read(at, n)
+    }
+
+    /// Whether `n` bytes from an address on can be written: one segment has them all, and drivers may
+    /// write it. No bytes always can. Takes no memory.
+    pub fn can_write(&self, at: u64, n: u64) -> bool
+        ensures { result ≡ is_writable_range self.now.now.soft.memory at n }
+    {
+        self.soft.can_write(at, n)
+    }
+
+    /// The `n` bytes from an address on, which can be read (`can_read`). Takes no memory.
+    pub fn bytes(&self, at: u64, n: u64) -> &[u8]
+        requires { is_readable self.now.now.soft.memory at n ≡ true }
+        ensures bytes { result.now ≡ bytes_of self.now.now.soft.memory at n }
+        ensures size { length result.now ≡ n }
+    {
+        self.soft.bytes(at, n)
+    }
+
+    /// Puts bytes in place of those from an address on, which can be written (`can_write`).
+    ///
+    /// # Errors
+    ///
+    /// `OutOfMemory` where there is no memory.
+    pub fn put(&mut self, at: u64, bytes: &[u8]) -> Result<(), OutOfMemory>
+        requires { is_writable_range self.old.now.soft.memory at (length bytes.now) ≡ true }
+        ensures now { OnOk result (self.new.now ≡ on_soft (with_memory (put_bytes self.old.now.soft.memory at bytes.now)) self.old.now) }
+        ensures kept { OnOk result (self.new.kept ≡ self.old.kept) }
+    {
+        self.soft.put(at, bytes);
+        Ok(())
+    }
+
+    /// Puts a byte in place of each of the `n` from an address on, which can be written (`can_write`).
+    ///
+    /// # Errors
+    ///
+    /// `OutOfMemory` where there is no memory.
+    pub fn fill(&mut self, at: u64, n: u64, byte: u8) -> Result<(), OutOfMemory>
+        requires { is_writable_range self.old.now.soft.memory at n ≡ true }
+        ensures now { OnOk result (self.new.now ≡ on_soft (with_memory (put_bytes self.old.now.soft.memory at (replicate n byte))) self.old.now) }
+        ensures kept { OnOk result (self.new.kept ≡ self.old.kept) }
+    {
+        self.soft.fill(at, n, byte);
+        Ok(())
+    }
+
+    // ---- the handle database
+
+    /// The handle database.
+    pub fn db(&self) -> &Db
+        ensures { result.now ≡ self.now.now.soft.database }
+    {
+        self.soft.db()
+    }
+
+    /// Installs an interface of a protocol on a handle, or on a new one where none is named, and
+    /// answers the handle (UEFI 2.8, 'EFI_BOOT_SERVICES.InstallProtocolInterface()'). `owner` is the
+    /// image that installs it.
+    ///
+    /// # Errors
+    ///
+    /// In this order: `BadHandle` where the handle that is named is not live; `Already` where it has the
+    /// protocol; `Full` where a limit of the database is met; `OutOfMemory` where there is no memory.
+    pub fn install(
+        &mut self,
+        handle: Option<Handle>,
+        guid: Guid,
+        interface: u64,
+        owner: Handle,
+    ) -> Result<Handle, DbRefusal>
+        ensures answer { GivesDb result (install_answer handle guid self.old.now.soft) }
+        ensures now { OnOk result (self.new.now ≡ on_soft (interface_added handle (interface_value guid interface owner)) self.old.now) }
+        ensures kept { OnOk result (self.new.kept ≡ self.old.kept) }
+        ensures refused { AsBeforeRefusal result self.old self.new }
+    {
+        self.soft.install(handle, guid, interface, owner)
+    }
+
+    /// Uninstalls a handle's interface of a protocol; a handle without interfaces is no longer live
+    /// (UEFI 2.8, 'EFI_BOOT_SERVICES.UninstallProtocolInterface()'). Neither the loaded image protocol of
+    /// the firmware or of an image that is loaded is uninstalled so, nor the bus driver's binding.
+    ///
+    /// # Errors
+    ///
+    /// `BadHandle` where the handle is not live; `NotThere` where it does not have the protocol;
+    /// `OutOfMemory` where there is no memory.
+    pub fn uninstall(&mut self, handle: Handle, guid: Guid) -> Result<(), DbRefusal>
+        requires { is_lasting handle guid self.old.now.soft ≡ false }
+        ensures answer { GivesDb result (uninstall_answer handle guid self.old.now.soft) }
+        ensures now { OnOk result (self.new.now ≡ on_soft (interface_removed handle guid) self.old.now) }
+        ensures kept { OnOk result (self.new.kept ≡ self.old.kept) }
+        ensures refused { AsBeforeRefusal result self.old self.new }
+    {
+        self.soft.uninstall(handle, guid)
+    }
+
+    // ---- images
+
+    /// Maps an image's bytes at the next image address, makes its loaded image block, installs that on a
+    /// new handle, and answers the handle (UEFI 2.8, 'EFI Loaded Image Protocol'). `entry` is where its
+    /// entry point lies in the bytes, `subsystem` that of its file, 11 for a driver of boot services and
+    /// 12 for a runtime driver, and `device` the handle of the device that it comes from, or 0.
+    ///
+    /// # Errors
+    ///
+    /// `Full` where 4,096 handles are live or the next handle number is 2^62, where all images would have
+    /// more than 67,108,864 bytes or this one would pass 0x80000000, or where a limit on blocks is met;
+    /// `OutOfMemory` where there is no memory.
+    pub fn add_image(
+        &mut self,
+        bytes: Vec<u8>,
+        entry: u32,
+        subsystem: u16,
+        device: u64,
+    ) -> Result<Handle, WorldFault>
+        requires { entry < length bytes.items }
+        ensures answer { Gives result (add_answer (length bytes.items) self.old.now.soft) }
+        ensures now { OnOk result (self.new.now ≡ on_soft (image_added bytes.items entry subsystem device) self.old.now) }
+        ensures kept { OnOk result (self.new.kept ≡ self.old.kept) }
+        ensures refused { AsBefore result self.old self.new }
+    {
+        self.soft.add_image(bytes, entry, subsystem, device)
+    }
+
+    /// Uninstalls the loaded image interface of an image that `add_image` added, and takes out its bytes,
+    /// its loaded image block, and the thunks that enter its bytes.
+    ///
+    /// # Errors
+    ///
+    /// `NotThere` where the handle is no such image's; `OutOfMemory` where there is no memory.
+    pub fn drop_image(&mut self, image: Handle) -> Result<(), WorldFault>
+        ensures answer { Gives result (drop_answer image self.old.now.soft) }
+        ensures now { OnOk result (self.new.now ≡ on_soft (image_dropped image) self.old.now) }
+        ensures kept { OnOk result (self.new.kept ≡ self.old.kept) }
+        ensures refused { AsBefore result self.old self.new }
+    {
+        self.soft.drop_image(image)
+    }
+
+    /// The address at which the next image would be mapped. Takes no memory.
+    pub fn next_image(&self) -> u64
+        ensures { result ≡ self.now.now.soft.next_image }
+    {
+        self.soft.next_image()
+    }
+
+    /// The image whose bytes an address lies in, of those that `add_image` added; `None` exactly where it
+    /// lies in none. Takes no memory.
+    pub fn image_at(&self, at: u64) -> Option<Handle>
+        ensures { result ≡ image_value at self.now.now.soft }
+    {
+        self.soft.image_at(at)
+    }
+
+    /// The address of an image's entry point; `None` exactly where the number is no handle of an image
+    /// that `add_image` added. Takes no memory.
+    pub fn entry_of(&self, handle: u64) -> Option<u64>
+        ensures { result ≡ entry_value handle self.now.now.soft }
+    {
+        self.soft.entry_of(handle)
+    }
+
+    // ---- thunks
+
+    /// Makes a thunk, by which native code calls the EBC code at `entry`, and answers its address (UEFI
+    /// 2.8, 'EFI_EBC_PROTOCOL.CreateThunk()'). The entry lies in the bytes of an image.
+    ///
+    /// # Errors
+    ///
+    /// `Full` where 65,536 numbers of thunks were handed out; `OutOfMemory` where there is no memory.
+    pub fn make_thunk(&mut self, entry: u64) -> Result<u64, WorldFault>
+        requires { is_some (image_value entry self.old.now.soft) ≡ true }
+        ensures answer { Gives result (thunk_answer self.old.now.soft) }
+        ensures now { OnOk result (self.new.now ≡ on_soft (thunk_made entry) self.old.now) }
+        ensures kept { OnOk result (self.new.kept ≡ self.old.kept) }
+        ensures refused { AsBefore result self.old self.new }
+    {
+        self.soft.make_thunk(entry)
+    }
+
+    /// Where the live thunk of an address enters EBC code; `None` exactly where the address is no live
+    /// thunk's. Takes no memory.
+    pub fn thunk_at(&self, at: u64) -> Option<u64>
+        ensures { result ≡ thunk_value at self.now.now.soft }
+    {
+        self.soft.thunk_at(at)
+    }
+
+    // ---- stacks
+
+    /// Maps the stack of a level, from 1 to 32, with a frame of these arguments at its end, and the list
+    /// of child handles where there are any, at most 16,384. Answers the registers as the call begins:
+    /// R0 is at the frame, and all else is 0. The level has no stack yet.
+    ///
+    /// # Errors
+    ///
+    /// `OutOfMemory` where there is no memory.
+    pub fn push_stack(
+        &mut self,
+        level: u8,
+        slots: &[u64; 16],
+        list: &[u64],
+    ) -> Result<Cpu, OutOfMemory>
+        requires from { 0 < level }
+        requires to { level ≤ most_levels }
+        requires none { has_stack level self.old.now.soft.memory ≡ false }
+        requires few { length list.now ≤ most_listed }
+        ensures frame { IfOk result (λ cpu. cpu ≡ frame level) }
+        ensures now { OnOk result (self.new.now ≡ on_soft (stack_pushed level slots.now list.now) self.old.now) }
+        ensures kept { OnOk result (self.new.kept ≡ self.old.kept) }
+    {
+        self.soft.push_stack(level, slots, list)
+    }
+
+    /// Takes out the stack of a level and its list of child handles. The stack is there, and no mark that
+    /// is open is newer than it.
+    ///
+    /// # Errors
+    ///
+    /// `OutOfMemory` where there is no memory.
+    pub fn pop_stack(&mut self, level: u8) -> Result<(), OutOfMemory>
+        requires from { 0 < level }
+        requires to { level ≤ most_levels }
+        requires there { has_stack level self.old.now.soft.memory ≡ true }
+        requires older { is_kept_stack level self.old.kept ≡ false }
+        ensures now { OnOk result (self.new.now ≡ on_soft (stack_popped level) self.old.now) }
+        ensures kept { OnOk result (self.new.kept ≡ self.old.kept) }
+    {
+        self.soft.pop_stack(level);
+        Ok(())
+    }
+
+    // ---- units
+
+    /// The units that may still be spent.
+    pub fn left(&self) -> u64
+        ensures { result ≡ self.now.now.hard.units }
+    {
+        self.units
+    }
+
+    /// Spends units; false exactly where fewer are left, and then nothing is spent.
+    pub fn spend(&mut self, n: u64) -> bool
+        ensures enough { result ≡ nat_le n self.old.now.hard.units }
+        ensures now { self.new.now ≡ (if result then on_hard (units_spent n) self.old.now else self.old.now) }
+        ensures kept { self.new.kept ≡ self.old.kept }
+        ensures falls { self.new.now.hard.units ≤ self.old.now.hard.units }
+    {
+        if n > self.units {
+            return false;
+        }
+        self.units -= n;
+        true
+    }
+
+    /// Leaves at most so many units, until the cap is given back: the others are set aside in it.
+    pub fn cap(&mut self, most: u64) -> Cap
+        ensures aside { result ≡ set_aside most self.old.now.hard }
+        ensures now { self.new.now ≡ on_hard (units_capped most) self.old.now }
+        ensures kept { self.new.kept ≡ self.old.kept }
+        // So what was set aside fits beside what will be left of the rest.
+        ensures whole { self.new.now.hard.units + result ≡ self.old.now.hard.units }
+        ensures small { self.old.now.hard.units < 2 ^ 64 }
+    {
+        let left = self.units.min(most);
+        let aside = self.units - left;
+        self.units = left;
+        Cap { aside }
+    }
+
+    /// Gives back the units that a cap has set aside. They fit beside those that are left, since units
+    /// are only spent while a cap stands.
+    pub fn uncap(&mut self, c: Cap)
+        requires { self.old.now.hard.units + c < 2 ^ 64 }
+        ensures now { self.new.now ≡ on_hard (units_returned c) self.old.now }
+        ensures kept { self.new.kept ≡ self.old.kept }
+    {
+        self.units += c.aside;
+    }
+
+    // ---- events
+
+    /// Gives a command its units, and forgets the events of the one before. Takes no memory.
+    pub fn begin_command(&mut self, units: u32)
+        ensures now { self.new.now ≡ on_hard (command_begun units) self.old.now }
+        ensures kept { self.new.kept ≡ self.old.kept }
+    {
+        self.units = u64::from(units);
+        self.events = Vec::new(self.alloc);
+    }
+
+    /// Begins an event and answers its serial number, which is one more than there are events. Until it
+    /// ends its result is the value SUCCESS.
+    ///
+    /// # Errors
+    ///
+    /// `OutOfMemory` where there is no memory.
+    pub fn begin_event(
+        &mut self,
+        parent: u64,
+        kind: EventKind,
+        driver: u64,
+        controller: u64,
+        extra: u64,
+    ) -> Result<u64, OutOfMemory>
+        ensures serial { IfOk result (λ serial. serial ≡ next_serial self.old.now.hard) }
+        ensures last { IfOk result (λ serial. serial ≡ length self.new.now.hard.events) }
+        ensures now { OnOk result (self.new.now ≡ on_hard (event_begun parent kind driver controller extra) self.old.now) }
+        ensures kept { OnOk result (self.new.kept ≡ self.old.kept) }
+    {
+        let serial = self.events.len() as u64 + 1;
+        self.events.push(Event {
+            serial,
+            parent,
+            kind,
+            driver,
+            controller,
+            extra,
+            result: Outcome::Value(Status::SUCCESS),
+        })?;
+        Ok(serial)
+    }
+
+    /// Ends the event of a serial number, which has begun in this command.
+    pub fn end_event(&mut self, serial: u64, outcome: Outcome)
+        requires from { 0 < serial }
+        requires to { serial ≤ length self.old.now.hard.events }
+        ensures now { self.new.now ≡ on_hard (event_ended serial outcome) self.old.now }
+        ensures kept { self.new.kept ≡ self.old.kept }
+        ensures count { length self.new.now.hard.events ≡ length self.old.now.hard.events }
+    {
+        let event = &mut self.events[serial as usize - 1];
+        event.result = outcome;
+    }
+
+    /// The events of the command, which the world then has no more. Takes no memory.
+    pub fn take_events(&mut self) -> Vec<Event>
+        ensures events { result.items ≡ self.old.now.hard.events }
+        ensures now { self.new.now ≡ on_hard events_taken self.old.now }
+        ensures kept { self.new.kept ≡ self.old.kept }
+    {
+        std::mem::replace(&mut self.events, Vec::new(self.alloc))
+    }
+
+    // ---- marks
+
+    /// Keeps the soft part as it is now, so that `rollback` can put it back. Fewer than 65,536 marks are
+    /// open.
+    ///
+    /// # Errors
+    ///
+    /// `OutOfMemory` where there is no memory.
+    pub fn mark(&mut self) -> Result<Mark, OutOfMemory>
+        requires { depth self.old < most_marks }
+        ensures depth { IfOk result (λ mark. mark ≡ depth self.new) }
+        ensures marked { OnOk result (self.new ≡ marked self.old) }
+    {
+        let soft = self.soft.copy()?;
+        self.marks.push(soft)?;
+        Ok(Mark {
+            depth: self.marks.len(),
+        })
+    }
+
+    /// Puts the soft part back that a mark keeps, and spends the mark. It is the newest that is open, and
+    /// the same levels have stacks as when it was made. The units and the events stay.
+    ///
+    /// # Errors
+    ///
+    /// `OutOfMemory` where there is no memory.
+    pub fn rollback(&mut self, m: Mark) -> Result<(), OutOfMemory>
+        requires newest { m ≡ depth self.old }
+        requires stacks { stacks self.old.now.soft ≡ kept_stacks self.old }
+        ensures { OnOk result (self.new ≡ rolled_back self.old) }
+    {
+        if let Some(soft) = self.marks.pop() {
+            self.soft = soft;
+        }
+        Ok(())
+    }
+
+    /// Spends a mark, and leaves the soft part as it is. It is the newest that is open. Takes no memory.
+    pub fn commit(&mut self, m: Mark)
+        requires newest { m ≡ depth self.old }
+        ensures { self.new ≡ committed self.old }
+    {
+        let _ = self.marks.pop();
+    }
+}
+
+/// What drivers see of the world's memory.
+impl GuestMem for World {
+    ghost use Rattle.std.specs.Prelude.{refl};
+    ghost use Rattle.world_model.specs.World.{on_soft, with_memory};
+
+    ghost segments = { λ w. w.now.soft.memory };
+
+    ghost with_segments = { λ w segments. record w { now = on_soft (with_memory segments) w.now } };
+
+    ghost may_run_out = { Unit {0} };
+
+    ghost same = { λ w. refl };
+
+    #[inline]
+    fn read(&self, at: u64, n: u8) -> Option<u64> {
+        self.soft.read(at, n)
+    }
+
+    #[inline]
+    fn write(&mut self, at: u64, n: u8, value: u64) -> Result<(), MemRefusal> {
+        self.soft.write(at, n, value)
+    }
+
+    #[inline]
+    fn fetch(&self, at: u64, into: &mut [u8; 18]) -> u8 {
+        self.soft.fetch(at, into)
+    }
+}

@@ -1,0 +1,56 @@
+-- Making a thunk leaves what holds of every soft part.
+use Rattle.std.proofs.Common.{◌≡◌, ◌<◌, ℕ, Bool, true, false, List, [], ◌∷◌, Option, Some, None, refl, ◌∙◌, arith}
+use Rattle.std.specs.Prelude.{Ok, Err, is_ok, is_some, option_map, if◌then◌else◌}
+use Rattle.std.specs.List.{list_all}
+use Rattle.std.proofs.lemmas.Bool.{and_from}
+use Rattle.std.proofs.lemmas.Bool.Decides.{nat_tests}
+use Rattle.std.proofs.lemmas.List.Folds.{list_all-append}
+use Rattle.guest_memory.specs.declared.segment.Segment.{Segment}
+use Rattle.guest_memory.specs.GuestMemory.{image_with}
+use Rattle.world_model.specs.declared.addresses.TheConstants.{MOST_THUNKS}
+use Rattle.world_model.specs.declared.fault.WorldFault.{WorldFault}
+use Rattle.world_model.specs.declared.fault.WorldFault.TheVariants.{Full}
+use Rattle.world_model.specs.declared.image.LoadedImage.{LoadedImage}
+use Rattle.world_model.specs.declared.thunk.Thunk.{Thunk}
+use Rattle.world_model.specs.Images.{image_from}
+use Rattle.world_model.specs.Kept.{is_entered}
+use Rattle.world_model.specs.Keeping.{MakingKeeps}
+use Rattle.world_model.proofs.Entered.{numbers-push}
+
+-- where an image is told, some segment has the address
+some_image : (found : Option Segment) (images : List LoadedImage) → is_some (image_from (option_map (λ (segment : Segment). segment.base) found) images) ≡ true → is_some found ≡ true
+some_image None images some = absurd cc
+some_image (Some segment) images some = refl
+
+-- a number is left where one is answered
+left : (full : Bool) (address : ℕ) → is_ok {E = WorldFault} (if full then Err Full else Ok address) ≡ true → full ≡ false
+left true address ok = absurd cc
+left false address ok = refl
+
+pub making : MakingKeeps
+making soft entry kept some ok =
+    let new : Thunk = record { number = soft.next_thunk; entry = entry } in
+    let here : is_entered soft.memory new ≡ true = some_image (image_with soft.memory entry) soft.images some in
+    let room : soft.next_thunk < MOST_THUNKS = grind (arith, nat_tests, left _ _ ok) in
+    record {
+      apart = kept.apart;
+      placed = kept.placed;
+      tables = kept.tables;
+      lists = kept.lists;
+      images = kept.images;
+      entries = kept.entries;
+      blocks = kept.blocks;
+      rising = kept.rising;
+      sound = kept.sound;
+      limit = kept.limit;
+      firmware_there = kept.firmware_there;
+      bus_driver_there = kept.bus_driver_there;
+      installed = kept.installed;
+      entered =
+          list_all-append (is_entered soft.memory) soft.thunks (new ∷ [])
+          ∙ and_from (list_all (is_entered soft.memory) soft.thunks) (list_all (is_entered soft.memory) (new ∷ [])) kept.entered (and_from (is_entered soft.memory new) true here refl);
+      numbered = numbers-push 0 soft.thunks new kept.numbered;
+      image_range = kept.image_range;
+      block_range = kept.block_range;
+      thunk_range = omega arith;
+    }

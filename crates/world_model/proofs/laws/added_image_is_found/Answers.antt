@@ -1,0 +1,5 @@
+use Rattle.world_model.proofs.Finding.{found}
+use Rattle.world_model.proofs.laws.added_image_is_found.Goals as goal
+
+pub returns : goal.returns
+returns c = found

@@ -1,0 +1,24 @@
+use Rattle.world_model.proofs.OpeningKept.{opening_kept}
+use Rattle.world_model.proofs.KeepingBlocks.{allotting, freeing, putting, tpl_set, writing}
+use Rattle.world_model.proofs.KeepingInterfaces.{installing, uninstalling}
+use Rattle.world_model.proofs.KeepingImages.{adding, dropping}
+use Rattle.world_model.proofs.KeepingStacks.{popping, pushing}
+use Rattle.world_model.proofs.KeepingThunks.{making}
+use Rattle.world_model.proofs.laws.changes_keep.Goals as goal
+
+pub returns : goal.returns
+returns c = record {
+  opening = opening_kept;
+  writing = writing;
+  putting = putting;
+  tpl = tpl_set;
+  allotting = allotting;
+  freeing = freeing;
+  installing = installing;
+  uninstalling = uninstalling;
+  adding = adding;
+  dropping = dropping;
+  making = making;
+  pushing = pushing;
+  popping = popping;
+}

@@ -1,0 +1,5 @@
+use Rattle.world_model.proofs.FixedStay.{mapping, putting, unmapping, writing}
+use Rattle.world_model.proofs.laws.fixed_segments_stay.Goals as goal
+
+pub returns : goal.returns
+returns c = record { writing = writing; putting = putting; mapping = mapping; unmapping = unmapping }

@@ -1,0 +1,5 @@
+use Rattle.world_model.proofs.Marking.{commit, rollback}
+use Rattle.world_model.proofs.laws.marks_are_spent.Goals as goal
+
+pub returns : goal.returns
+returns c = record { rollback = rollback; commit = commit }

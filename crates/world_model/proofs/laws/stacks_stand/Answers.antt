@@ -1,0 +1,17 @@
+use Rattle.world_model.proofs.StacksStand.{adding, allotting, dropping, freeing, popped_is_gone, popping, pushed_is_there, pushing, putting, stack_of_level, writing}
+use Rattle.world_model.proofs.laws.stacks_stand.Goals as goal
+
+pub returns : goal.returns
+returns c = record {
+  level = stack_of_level;
+  writing = writing;
+  putting = putting;
+  allotting = allotting;
+  freeing = freeing;
+  adding = adding;
+  dropping = dropping;
+  pushing = pushing;
+  popping = popping;
+  there = pushed_is_there;
+  gone = popped_is_gone;
+}

@@ -1,0 +1,104 @@
+-- Each single change leaves what holds of every soft part, and where it maps a segment nothing refuses
+-- that.
+use Rattle.std.specs.Prelude.{◌≡◌, ℕ, ◌≤◌, ◌<◌, true, false, List, length, Option, Ok, is_ok, is_some}
+use Rattle.guest_memory.specs.declared.segment.SegKind.{SegKind}
+use Rattle.guest_memory.specs.Segment.{is_block}
+use Rattle.guest_memory.specs.GuestMemory.{is_writable_range, map_answer, mapped, put_bytes, write_answer, written}
+use Rattle.handle_db.specs.declared.entry.Interface.{Interface}
+use Rattle.world_model.specs.World.{Soft, with_memory, with_tpl}
+use Rattle.world_model.specs.Blocks.{block_added, block_freed, block_segment, free_answer, is_block_full}
+use Rattle.world_model.specs.Interfaces.{install_answer, interface_added, interface_removed, is_lasting}
+use Rattle.world_model.specs.Thunks.{thunk_answer, thunk_made}
+use Rattle.world_model.specs.Images.{Told, image_added, image_at, image_dropped, image_segment, is_image_full, told_segment}
+use Rattle.world_model.specs.Stacks.{has_stack, list_segment, stack_popped, stack_pushed, stack_segment}
+use Rattle.world_model.specs.Kept.{IsKept}
+use Rattle.world_model.specs.declared.addresses.TheConstants.{MOST_LEVELS, MOST_LISTED}
+use Rattle.world_model.specs.Opening.{opening_soft}
+
+abbrev pub OpeningIsKept : Type 0
+OpeningIsKept = IsKept opening_soft
+
+abbrev pub WritingKeeps : Type 0
+WritingKeeps =
+    (soft : Soft) (at n value : ℕ) → IsKept soft → write_answer soft.memory at n ≡ Ok tt → IsKept (with_memory (written soft.memory at n value) soft)
+
+abbrev pub PuttingKeeps : Type 0
+PuttingKeeps =
+    (soft : Soft) (at : ℕ) (bytes : List ℕ) → IsKept soft → is_writable_range soft.memory at (length bytes) ≡ true → IsKept (with_memory (put_bytes soft.memory at bytes) soft)
+
+abbrev pub TplKeeps : Type 0
+TplKeeps = (soft : Soft) (tpl : ℕ) → IsKept soft → IsKept (with_tpl tpl soft)
+
+-- ---- blocks
+
+abbrev pub BlockFits : Type 0
+BlockFits =
+    (soft : Soft) (bytes : List ℕ) (kind : SegKind) → IsKept soft → is_block kind ≡ true → is_block_full (length bytes) soft ≡ false
+    → map_answer soft.memory (block_segment bytes kind soft) ≡ Ok tt
+
+abbrev pub AllottingKeeps : Type 0
+AllottingKeeps =
+    (soft : Soft) (bytes : List ℕ) (kind : SegKind) → IsKept soft → is_block kind ≡ true → is_block_full (length bytes) soft ≡ false
+    → IsKept (block_added bytes kind soft)
+
+abbrev pub FreeingKeeps : Type 0
+FreeingKeeps =
+    (soft : Soft) (at : ℕ) (kind : SegKind) → IsKept soft → is_block kind ≡ true → free_answer at kind soft ≡ Ok tt → IsKept (block_freed at soft)
+
+-- ---- interfaces
+
+abbrev pub InstallingKeeps : Type 0
+InstallingKeeps =
+    (soft : Soft) (handle : Option ℕ) (new : Interface) → IsKept soft → is_ok (install_answer handle new.guid soft) ≡ true
+    → IsKept (interface_added handle new soft)
+
+abbrev pub UninstallingKeeps : Type 0
+UninstallingKeeps =
+    (soft : Soft) (handle : ℕ) (guid : List ℕ) → IsKept soft → is_lasting handle guid soft ≡ false → IsKept (interface_removed handle guid soft)
+
+-- ---- images
+
+-- first the loaded image block is mapped, then the image
+abbrev pub ToldFits : Type 0
+ToldFits =
+    (soft : Soft) (size : ℕ) (told : Told) → IsKept soft → is_image_full size soft ≡ false → map_answer soft.memory (told_segment told soft) ≡ Ok tt
+
+abbrev pub ImageFits : Type 0
+ImageFits =
+    (soft : Soft) (bytes : List ℕ) (told : Told) → IsKept soft → 0 < length bytes → is_image_full (length bytes) soft ≡ false
+    → map_answer (mapped (told_segment told soft) soft.memory) (image_segment bytes soft) ≡ Ok tt
+
+abbrev pub AddingKeeps : Type 0
+AddingKeeps =
+    (soft : Soft) (bytes : List ℕ) (entry subsystem device : ℕ) → IsKept soft → entry < length bytes → is_image_full (length bytes) soft ≡ false
+    → IsKept (image_added bytes entry subsystem device soft)
+
+abbrev pub DroppingKeeps : Type 0
+DroppingKeeps = (soft : Soft) (handle : ℕ) → IsKept soft → IsKept (image_dropped handle soft)
+
+-- ---- thunks
+
+abbrev pub MakingKeeps : Type 0
+MakingKeeps =
+    (soft : Soft) (entry : ℕ) → IsKept soft → is_some (image_at entry soft) ≡ true → is_ok (thunk_answer soft) ≡ true → IsKept (thunk_made entry soft)
+
+-- ---- stacks
+
+abbrev pub StackFits : Type 0
+StackFits =
+    (soft : Soft) (level : ℕ) (slots : List ℕ) → IsKept soft → 0 < level → level ≤ MOST_LEVELS → length slots ≡ 16 → has_stack level soft.memory ≡ false
+    → map_answer soft.memory (stack_segment level slots) ≡ Ok tt
+
+-- first the stack is mapped, then the list
+abbrev pub ListFits : Type 0
+ListFits =
+    (soft : Soft) (level : ℕ) (slots handles : List ℕ) → IsKept soft → 0 < level → level ≤ MOST_LEVELS → length slots ≡ 16 → has_stack level soft.memory ≡ false
+    → length handles ≤ MOST_LISTED → map_answer (mapped (stack_segment level slots) soft.memory) (list_segment level handles) ≡ Ok tt
+
+abbrev pub PushingKeeps : Type 0
+PushingKeeps =
+    (soft : Soft) (level : ℕ) (slots handles : List ℕ) → IsKept soft → 0 < level → level ≤ MOST_LEVELS → length slots ≡ 16 → has_stack level soft.memory ≡ false
+    → length handles ≤ MOST_LISTED → IsKept (stack_pushed level slots handles soft)
+
+abbrev pub PoppingKeeps : Type 0
+PoppingKeeps = (soft : Soft) (level : ℕ) → IsKept soft → 0 < level → level ≤ MOST_LEVELS → IsKept (stack_popped level soft)

@@ -1,0 +1,56 @@
+-- The world of a machine: a soft part, which an undo puts back, and a hard part, which no undo touches.
+use Rattle.std.specs.Prelude.{ℕ, List, map, filter}
+use Rattle.fw_types.specs.declared.event.Event.{Event}
+use Rattle.guest_memory.specs.declared.segment.Segment.{Segment}
+use Rattle.guest_memory.specs.declared.segment.SegKind.{SegKind}
+use Rattle.guest_memory.specs.GuestMemory.{is_of}
+use Rattle.handle_db.specs.Database.{Database}
+use Rattle.world_model.specs.declared.image.LoadedImage.{LoadedImage}
+use Rattle.world_model.specs.declared.thunk.Thunk.{Thunk}
+
+-- the memory of drivers; the handle database; the images that are loaded, in order of loading, but for
+-- the firmware's own; the live thunks, in order of making; the task priority level; the addresses at
+-- which the next image and the next block will lie; and the number of the next thunk
+pub record Soft : Type 0 where
+  pub memory : List Segment
+  pub database : Database
+  pub images : List LoadedImage
+  pub thunks : List Thunk
+  pub tpl : ℕ
+  pub next_image : ℕ
+  pub next_block : ℕ
+  pub next_thunk : ℕ
+
+-- the units that may still be spent, and the events of the command so far
+pub record Hard : Type 0 where
+  pub units : ℕ
+  pub events : List Event
+
+pub record State : Type 0 where
+  pub soft : Soft
+  pub hard : Hard
+
+-- the world beside the soft parts that its open marks keep, the newest mark's first
+pub record Held : Type 0 where
+  pub now : State
+  pub kept : List Soft
+
+-- where the segments of a kind begin, in order of address
+abbrev pub bases : SegKind → List Segment → List ℕ
+bases kind segments = map (λ (segment : Segment). segment.base) (filter (is_of kind) segments)
+
+-- a change of the soft part alone
+abbrev pub on_soft : (Soft → Soft) → State → State
+on_soft change w = record w { soft = change w.soft }
+
+-- a change of the hard part alone
+abbrev pub on_hard : (Hard → Hard) → State → State
+on_hard change w = record w { hard = change w.hard }
+
+-- other segments, as a write leaves them
+abbrev pub with_memory : List Segment → Soft → Soft
+with_memory segments soft = record soft { memory = segments }
+
+-- another task priority level (UEFI 2.8, 'EFI_BOOT_SERVICES.RaiseTPL()')
+abbrev pub with_tpl : ℕ → Soft → Soft
+with_tpl tpl soft = record soft { tpl = tpl }
