@@ -1,0 +1,172 @@
+//! The table of boot services, and how a service goes.
+ghost use Rattle.std.specs.Prelude.{◌≡◌, ◌≤◌, ◌%◌, ◌^◌, IfOk, OnOk, true};
+ghost use Rattle.service_thunks.specs.Arguments.{most_arguments};
+ghost use Rattle.service_model.specs.Allowed.{is_allowed};
+ghost use Rattle.service_model.specs.BootServices.{charged, ended, is_boot_service, pool_price, priced_behind, priced_first, row, served, with_arguments};
+
+use crate::changes::commit;
+use crate::rows::{
+    MOST_BYTES, allocate_pool, copy_mem, free_pool, raise_tpl, restore_tpl, set_mem, stall,
+};
+use crate::words::slots;
+use fw_types::{Cause, OutOfMemory, Status};
+use fw_world::World;
+use service_model::laws::rows_are_allowed;
+use service_model::{Caller, Change, Served, Stop};
+use service_thunks::Service;
+
+// ---- the table, column by column
+
+/// How many arguments a service has.
+fn slots_of(s: Service) -> u8
+    ensures value { result ≡ (row s).slots }
+    ensures few { result ≤ most_arguments }
+{
+    match s {
+        Service::RaiseTpl | Service::RestoreTpl | Service::FreePool | Service::Stall => 1,
+        Service::AllocatePool | Service::CopyMem | Service::SetMem => 3,
+        _ => 0,
+    }
+}
+
+/// Whether the price of a service names an argument.
+fn is_by_argument(s: Service) -> bool
+    ensures { result ≡ (row s).by_argument }
+{
+    matches!(
+        s,
+        Service::AllocatePool | Service::CopyMem | Service::SetMem
+    )
+}
+
+/// The price of a service with these arguments, in units.
+fn price_of(s: Service, a: &[u64; 16]) -> u64
+    ensures { result ≡ (row s).price a.now }
+{
+    match s {
+        Service::FreePool => 4,
+        Service::AllocatePool => pool_price(a[1]),
+        Service::CopyMem => 1 + a[2].div_ceil(8),
+        Service::SetMem => 1 + a[1].div_ceil(8),
+        _ => 1,
+    }
+}
+
+/// The price of AllocatePool of so many bytes.
+fn pool_price(size: u64) -> u64
+    ensures { result ≡ pool_price size }
+{
+    if size > MOST_BYTES {
+        1
+    } else {
+        1 + size.div_ceil(64)
+    }
+}
+
+/// The lowest 8 bits of an argument.
+fn low8(value: u64) -> u8
+    ensures { result ≡ value % 2 ^ 8 }
+{
+    (value % (1 << 8)) as u8
+}
+
+/// What a service does with these arguments.
+fn planned(s: Service, c: &Caller, a: &[u64; 16], w: &World) -> Result<Change, Stop>
+    ensures value { result ≡ (row s).rest c.now a.now w.now.now }
+    ensures allowed { IfOk result (λ change. is_allowed change w.now.now ≡ true) }
+{
+    rows_are_allowed();
+    match s {
+        Service::RaiseTpl => raise_tpl(a[0], w),
+        Service::RestoreTpl => restore_tpl(a[0], w),
+        Service::AllocatePool => allocate_pool(a[1], a[2], w),
+        Service::FreePool => free_pool(a[0], w),
+        Service::Stall => stall(w),
+        Service::CopyMem => copy_mem(a[0], a[1], a[2], w),
+        Service::SetMem => set_mem(a[0], a[1], low8(a[2]), w),
+        _ => Err(Stop::Status(Status::UNSUPPORTED)),
+    }
+}
+
+// ---- how a service goes
+
+/// Makes the change that a row says, or leaves all as it is.
+fn end(said: Result<Change, Stop>, w: &mut World) -> Result<Served, OutOfMemory>
+    requires { IfOk said (λ change. is_allowed change w.old.now ≡ true) }
+    ensures now { IfOk result (λ served. ended w.old.now said ≡ (served, w.new.now)) }
+    ensures kept { OnOk result (w.new.kept ≡ w.old.kept) }
+{
+    match said {
+        Ok(change) => commit(change, w),
+        Err(Stop::Status(status)) => Ok(Served::Value(status.0)),
+        Err(Stop::Trap(cause)) => Ok(Served::Trap(cause)),
+    }
+}
+
+/// Reads the arguments and does the row's work.
+fn work(s: Service, c: &Caller, w: &World) -> Result<Change, Stop>
+    ensures value { result ≡ with_arguments (row s) c.now w.now.now }
+    ensures allowed { IfOk result (λ change. is_allowed change w.now.now ≡ true) }
+{
+    let a = slots(slots_of(s), c.sp, w)?;
+    planned(s, c, &a, w)
+}
+
+/// A service whose price names no argument.
+fn serve_priced_first(w: &mut World, s: Service, c: &Caller) -> Result<Served, OutOfMemory>
+    ensures now { IfOk result (λ answer. priced_first (row s) c.now w.old.now ≡ (answer, w.new.now)) }
+    ensures kept { OnOk result (w.new.kept ≡ w.old.kept) }
+{
+    if !w.spend(price_of(s, &[0; 16])) {
+        return Ok(Served::Trap(Cause::Budget));
+    }
+    let said = work(s, c, w);
+    end(said, w)
+}
+
+/// A service with these arguments, by which it is priced.
+fn serve_with(w: &mut World, s: Service, c: &Caller, a: &[u64; 16]) -> Result<Served, OutOfMemory>
+    ensures now { IfOk result (λ answer. charged ((row s).price a.now) ((row s).rest c.now a.now) w.old.now ≡ (answer, w.new.now)) }
+    ensures kept { OnOk result (w.new.kept ≡ w.old.kept) }
+{
+    if !w.spend(price_of(s, a)) {
+        return Ok(Served::Trap(Cause::Budget));
+    }
+    let said = planned(s, c, a, w);
+    end(said, w)
+}
+
+/// A service whose price names an argument.
+fn serve_priced_behind(w: &mut World, s: Service, c: &Caller) -> Result<Served, OutOfMemory>
+    ensures now { IfOk result (λ answer. priced_behind (row s) c.now w.old.now ≡ (answer, w.new.now)) }
+    ensures kept { OnOk result (w.new.kept ≡ w.old.kept) }
+{
+    match slots(slots_of(s), c.sp, w) {
+        Ok(a) => serve_with(w, s, c, &a),
+        Err(stop) => end(Err(stop), w),
+    }
+}
+
+/// Serves a call of a boot service (UEFI 2.8, chapter 7 'Services - Boot Services'). `s` is one of the
+/// boot services, or `Unbuilt`; the arguments stand on the caller's stack, 8 bytes each from `c.sp` on.
+///
+/// First the price is spent, where it is not more than the units that are left: else the answer is
+/// `Trap` with `Budget`, and nothing is spent. Then the arguments are read, and where one can't be read
+/// the answer is `Trap` with `Memory`; where the price names an argument, they are read before it, and
+/// then nothing is spent. Then come the statuses of the service in their order, and traps with `Memory`
+/// for bytes that it can't read or write. A service that is not built answers UNSUPPORTED.
+///
+/// # Errors
+///
+/// `OutOfMemory` where there is no memory.
+pub fn serve(w: &mut World, s: Service, c: &Caller) -> Result<Served, OutOfMemory>
+    requires { is_boot_service s ≡ true }
+    ensures now { IfOk result (λ answer. served s c.now w.old.now ≡ (answer, w.new.now)) }
+    ensures kept { OnOk result (w.new.kept ≡ w.old.kept) }
+{
+    if is_by_argument(s) {
+        serve_priced_behind(w, s, c)
+    } else {
+        serve_priced_first(w, s, c)
+    }
+}

@@ -1,0 +1,5 @@
+pub mod Blocks
+pub mod Lines
+pub mod Rows
+pub mod Ways
+pub mod Leaving

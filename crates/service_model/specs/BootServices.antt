@@ -1,0 +1,107 @@
+-- The table of boot services (UEFI 2.8, 'EFI Boot Services Table'), and how a service goes. Prices are
+-- this project's own.
+use Rattle.std.specs.Prelude.{ℕ, ◌+◌, ◌-◌, ◌/◌, ◌%◌, ◌^◌, Bool, true, false, nat_lt, List, replicate, slice_index, Result, Ok, Err, if◌then◌else◌}
+use Rattle.fw_types.specs.declared.status.TheConstants.Status.{UNSUPPORTED}
+use Rattle.fw_types.specs.declared.event.Cause.TheVariants.{Budget}
+use Rattle.guest_memory.specs.GuestMemory.{most_bytes}
+use Rattle.service_thunks.specs.Arguments.{most_arguments}
+use Rattle.service_thunks.specs.declared.service.Service.{Service}
+use Rattle.service_thunks.specs.declared.service.Service.TheVariants.{RaiseTpl, RestoreTpl, AllocatePool, FreePool, Stall, CopyMem, SetMem, MemRead, MemWrite, PciRead, PciWrite, GetLocation, Attributes}
+use Rattle.world_model.specs.World.{State, on_hard}
+use Rattle.world_model.specs.Units.{units_spent}
+use Rattle.service_model.specs.Words.{◌>>=◌, slots}
+use Rattle.service_model.specs.Rows.{allocate_pool, copy_mem, free_pool, raise_tpl, restore_tpl, set_mem, stall}
+use Rattle.service_model.specs.Changes.{answered, committed}
+use Rattle.service_model.specs.declared.call.Caller.{Caller}
+use Rattle.service_model.specs.declared.call.Served.{Served}
+use Rattle.service_model.specs.declared.call.Served.TheVariants.{Trap}
+use Rattle.service_model.specs.declared.plan.Change.{Change}
+use Rattle.service_model.specs.declared.plan.Stop.{Stop}
+use Rattle.service_model.specs.declared.plan.Stop.TheVariants as stop
+
+-- ---- the table
+
+-- a row: how many arguments the service has, its price, whether that names an argument, and what the
+-- service does
+pub record Row : Type 0 where
+  pub slots : ℕ
+  pub price : List ℕ → ℕ
+  pub by_argument : Bool
+  pub rest : Caller → List ℕ → State → Result Change Stop
+
+-- a row whose price is a number
+abbrev pub fixed : ℕ → ℕ → (Caller → List ℕ → State → Result Change Stop) → Row
+fixed slots price rest = record { slots = slots; price = λ a. price; by_argument = false; rest = rest }
+
+-- one whose price names an argument
+abbrev pub priced : ℕ → (List ℕ → ℕ) → (Caller → List ℕ → State → Result Change Stop) → Row
+priced slots price rest = record { slots = slots; price = price; by_argument = true; rest = rest }
+
+-- an argument, counted from 0: its 64 bits, or the lowest 8
+abbrev pub arg : List ℕ → ℕ → ℕ
+arg a k = slice_index a k
+
+abbrev pub arg8 : List ℕ → ℕ → ℕ
+arg8 a k = slice_index a k % 2 ^ 8
+
+-- a number over another, rounded up
+abbrev pub per : ℕ → ℕ → ℕ
+per unit n = (n + (unit - 1)) / unit
+
+-- one unit for a call, and one for each 64 bytes of a block that can be made
+abbrev pub pool_price : ℕ → ℕ
+pool_price size = if nat_lt most_bytes size then 1 else 1 + per 64 size
+
+abbrev pub row : Service → Row
+row RaiseTpl = fixed 1 1 (λ c a. raise_tpl (arg a 0))
+row RestoreTpl = fixed 1 1 (λ c a. restore_tpl (arg a 0))
+row AllocatePool = priced 3 (λ a. pool_price (arg a 1)) (λ c a. allocate_pool (arg a 1) (arg a 2))
+row FreePool = fixed 1 4 (λ c a. free_pool (arg a 0))
+row Stall = fixed 1 1 (λ c a. stall)
+row CopyMem = priced 3 (λ a. 1 + per 8 (arg a 2)) (λ c a. copy_mem (arg a 0) (arg a 1) (arg a 2))
+row SetMem = priced 3 (λ a. 1 + per 8 (arg a 1)) (λ c a. set_mem (arg a 0) (arg a 1) (arg8 a 2))
+row _ = fixed 0 1 (λ c a w. Err (stop.Status UNSUPPORTED))
+
+-- ---- how a service goes
+
+-- a row's change is made, or all stays as it is
+abbrev pub ended : State → Result Change Stop → Served × State
+ended w (Ok change) = committed change w
+ended w (Err (stop.Status status)) = answered status w
+ended w (Err (stop.Trap cause)) = (Trap cause, w)
+
+-- a price is spent before the work; where it is more than what is left nothing is spent
+abbrev pub charged : ℕ → (State → Result Change Stop) → State → Served × State
+charged price work w =
+    if nat_lt w.hard.units price then (Trap Budget, w)
+    else ended (on_hard (units_spent price) w) (work (on_hard (units_spent price) w))
+
+-- the arguments are read, and then the row's work is done
+abbrev pub with_arguments : Row → Caller → State → Result Change Stop
+with_arguments row c w = slots row.slots c.sp w >>= λ a. row.rest c a w
+
+-- a price that names no argument comes before the arguments are read
+abbrev pub priced_first : Row → Caller → State → Served × State
+priced_first row c w = charged (row.price (replicate most_arguments 0)) (with_arguments row c) w
+
+-- one that names an argument comes behind
+abbrev pub priced_by : Row → Caller → State → Result (List ℕ) Stop → Served × State
+priced_by row c w (Ok a) = charged (row.price a) (row.rest c a) w
+priced_by row c w (Err stop) = ended w (Err stop)
+
+abbrev pub priced_behind : Row → Caller → State → Served × State
+priced_behind row c w = priced_by row c w (slots row.slots c.sp w)
+
+-- what a call of a boot service answers, and the state that it leaves
+abbrev pub served : Service → Caller → State → Served × State
+served s c w = if (row s).by_argument then priced_behind (row s) c w else priced_first (row s) c w
+
+-- whether a service is one of the boot services, and no function of PCI I/O
+abbrev pub is_boot_service : Service → Bool
+is_boot_service MemRead = false
+is_boot_service MemWrite = false
+is_boot_service PciRead = false
+is_boot_service PciWrite = false
+is_boot_service GetLocation = false
+is_boot_service Attributes = false
+is_boot_service _ = true

@@ -1,0 +1,50 @@
+-- The language in which rows are written. A row is a list of lines: each looks at the arguments and at
+-- the state, and the row goes on with what it says, or stops.
+use Rattle.std.specs.Prelude.{ℕ, Bool, nat_eq, List, ok_or, Result, Ok, Err, if◌then◌else◌}
+use Rattle.uuid.specs.Parts.{swap_fields}
+use Rattle.fw_types.specs.declared.status.Status.{Status as StatusValue}
+use Rattle.fw_types.specs.declared.event.Cause.TheVariants.{Memory}
+use Rattle.guest_memory.specs.GuestMemory.{bytes_of, is_readable, is_writable_range, loaded}
+use Rattle.service_thunks.specs.Arguments.{arguments}
+use Rattle.world_model.specs.World.{State}
+use Rattle.service_model.specs.declared.plan.Stop.{Stop}
+use Rattle.service_model.specs.declared.plan.Stop.TheVariants.{Status, Trap}
+
+-- a line that finds something, and the lines behind it
+infixl 10 ◌>>=◌
+abbrev pub ◌>>=◌ : {A B : Type 0} → Result A Stop → (A → Result B Stop) → Result B Stop
+(Ok found) >>= rest = rest found
+(Err stop) >>= rest = Err stop
+
+-- a line that finds nothing, and the lines behind it
+infixl 10 ◌>>◌
+abbrev pub ◌>>◌ : {B : Type 0} → Result Unit Stop → Result B Stop → Result B Stop
+(Ok done) >> rest = rest
+(Err stop) >> rest = Err stop
+
+-- NULL is the address 0
+abbrev pub null : ℕ → Bool
+null at = nat_eq at 0
+
+-- the service answers a status where a test holds
+abbrev pub refuse_if : Bool → StatusValue → Result Unit Stop
+refuse_if test status = if test then Err (Status status) else Ok tt
+
+-- n bytes from an address on can be read, or written; else it traps
+abbrev pub readable : ℕ → ℕ → State → Result Unit Stop
+readable n at w = if is_readable w.soft.memory at n then Ok tt else Err (Trap Memory)
+
+abbrev pub writable : ℕ → ℕ → State → Result Unit Stop
+writable n at w = if is_writable_range w.soft.memory at n then Ok tt else Err (Trap Memory)
+
+-- the number in the 8 bytes at an address
+abbrev pub number : ℕ → State → Result ℕ Stop
+number at w = ok_or (loaded w.soft.memory at 8) (Trap Memory)
+
+-- the GUID in the 16 bytes at an address
+abbrev pub guid : ℕ → State → Result (List ℕ) Stop
+guid at w = if is_readable w.soft.memory at 16 then Ok (swap_fields (bytes_of w.soft.memory at 16)) else Err (Trap Memory)
+
+-- the first n arguments of a caller, and 0 for the others of 16
+abbrev pub slots : ℕ → ℕ → State → Result (List ℕ) Stop
+slots n sp w = ok_or (arguments w.soft.memory sp n) (Trap Memory)
