@@ -1,0 +1,80 @@
+//! Thunks that a driver's code asks for.
+ghost use Rattle.std.specs.Prelude.{◌≡◌, ◌<◌, ◌^◌, IfOk, OnOk, is_some, true};
+ghost use Rattle.guest_memory.specs.GuestMemory.{is_writable_range};
+ghost use Rattle.ebc_machine.specs.declared.cpu.Cpu.{Cpu};
+ghost use Rattle.world_model.specs.Images.{image_at};
+ghost use Rattle.world_model.specs.Thunks.{thunk_answer};
+ghost use Rattle.driver_model.specs.ThunkRequests.{entry_from, thunk_by, thunk_wanted, wanted_entry};
+
+use fw_types::{Cause, OutOfMemory, Outcome};
+use fw_world::{World, WorldFault};
+use guest_memory::GuestMem;
+
+/// The entry that 4 signed bytes name, which stand at a place and count from behind them.
+fn entry_from(place: u64, number: u64) -> u64
+    requires { number < 256 ^ 4 }
+    ensures { result ≡ entry_from place number }
+{
+    let signed = i64::from((number as u32).cast_signed());
+    place.wrapping_add(4).wrapping_add_signed(signed)
+}
+
+/// The entry that stands at a place, where the 8 bytes there can be written; or why the code traps:
+/// `Memory` where the 4 bytes can't be read or the 8 can't be written, `Align` where the entry is odd, or
+/// `Fetch` where it lies in no image.
+fn wanted_entry(world: &World, place: u64) -> Result<u64, Cause>
+    ensures value { result ≡ wanted_entry place world.now.now.soft }
+    ensures place { IfOk result (λ entry. is_writable_range world.now.now.soft.memory place 8 ≡ true) }
+    ensures image { IfOk result (λ entry. is_some (image_at entry world.now.now.soft) ≡ true) }
+{
+    let Some(number) = world.read(place, 4) else {
+        return Err(Cause::Memory);
+    };
+    if !world.can_write(place, 8) {
+        return Err(Cause::Memory);
+    }
+    let entry = entry_from(place, number);
+    if entry % 2 != 0 {
+        return Err(Cause::Align);
+    }
+    if world.image_at(entry).is_none() {
+        return Err(Cause::Fetch);
+    }
+    Ok(entry)
+}
+
+/// Makes a thunk and stores its address in the 8 bytes at a place, or traps with `Thunks`.
+fn store_thunk(world: &mut World, place: u64, entry: u64) -> Result<Option<Outcome>, OutOfMemory>
+    requires place { is_writable_range world.old.now.soft.memory place 8 ≡ true }
+    requires image { is_some (image_at entry world.old.now.soft) ≡ true }
+    ensures turn { (cpu : Cpu) → IfOk result (λ ended. thunk_by (thunk_answer world.old.now.soft) place entry cpu world.old.now
+        ≡ record { ended = ended; cpu = cpu; world = world.new.now }) }
+    ensures kept { OnOk result (world.new.kept ≡ world.old.kept) }
+{
+    match world.make_thunk(entry) {
+        Ok(at) => {
+            world.put(place, &at.to_le_bytes())?;
+            Ok(None)
+        }
+        Err(WorldFault::OutOfMemory) => Err(OutOfMemory),
+        Err(_) => Ok(Some(Outcome::Trapped(Cause::Thunks))),
+    }
+}
+
+/// Makes the thunk that the code asks for by what stands at a place (UEFI 2.8, chapter 22, 'BREAK',
+/// code 5). The answer is how the run ends with it, if it does: for `Memory`, `Align`, `Fetch` or
+/// `Thunks`, which are met in this order. The registers stay.
+///
+/// # Errors
+///
+/// `OutOfMemory` where there is no memory.
+pub fn meet_request(world: &mut World, place: u64) -> Result<Option<Outcome>, OutOfMemory>
+    ensures turn { (cpu : Cpu) → IfOk result (λ ended. thunk_wanted place cpu world.old.now
+        ≡ record { ended = ended; cpu = cpu; world = world.new.now }) }
+    ensures kept { OnOk result (world.new.kept ≡ world.old.kept) }
+{
+    match wanted_entry(world, place) {
+        Ok(entry) => store_thunk(world, place, entry),
+        Err(cause) => Ok(Some(Outcome::Trapped(cause))),
+    }
+}

@@ -1,0 +1,9 @@
+pub mod Turn
+pub mod NativeCalls
+pub mod ThunkRequests
+pub mod GuestRun
+pub mod DriverCall
+pub mod Spending
+pub mod Chain
+pub mod RunLaws
+pub mod CallLaws
