@@ -25,8 +25,6 @@ pub enum Cause {
     Budget,
     /// The numbers of thunks are all handed out.
     Thunks,
-    /// The instruction asks for a call that this machine does not have yet.
-    NotBuilt,
 }
 
 /// What an event is: the call of a driver's entry point.

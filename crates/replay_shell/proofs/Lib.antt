@@ -1,7 +1,6 @@
-pub mod LayoutLemmas
+pub mod CallLemmas
 pub mod LinesLemmas
+pub mod LoadLemmas
 pub mod ReplayLemmas
 pub mod ReportLemmas
-pub mod RunLemmas
-pub mod SoftLemmas
 pub mod ScriptLemmas

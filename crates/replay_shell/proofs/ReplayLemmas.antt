@@ -7,7 +7,7 @@ use Rattle.std.proofs.lemmas.Grind.{common_steps}
 use Rattle.fw_types.specs.declared.command.Command.{Command}
 use Rattle.fw_shelf.specs.Shelf.{Files}
 use Rattle.fw_shelf.specs.Sink.{with_bytes}
-use Rattle.replay_shell.specs.declared.machine.Machine.{Machine}
+use Rattle.world_model.specs.World.{State}
 use Rattle.replay_shell.specs.DriverModel.{booted, exec, texts}
 use Rattle.replay_shell.specs.Headline.{EndsWith, answer, reads_at}
 use Rattle.replay_shell.specs.declared.replay.Stop.{Stop}
@@ -15,7 +15,7 @@ use Rattle.replay_shell.specs.declared.replay.Stop.TheVariants.{Shelf, Sink, Mem
 use Rattle.replay_shell.specs.Replay.{Replays, TakesTurn, text_of}
 
 -- after the first commands the machine has the other texts before it, and their texts were taken
-pub record SoFar (files : Files) (commands : List Command) (done : ℕ) (machine : Machine) (old now : Option (List ℕ)) : Type 0 where
+pub record SoFar (files : Files) (commands : List Command) (done : ℕ) (machine : State) (old now : Option (List ℕ)) : Type 0 where
   pub left : texts files machine (drop done commands) ≡ drop done (texts files booted commands)
   pub taken : now ≡ with_bytes old (concat (take done (texts files booted commands)))
 
@@ -24,7 +24,7 @@ pub with_bytes-with_bytes : (taken : Option (List ℕ)) (xs ys : List ℕ) → w
 with_bytes-with_bytes None xs ys = refl
 with_bytes-with_bytes (Some before) xs ys = ap Some (append_assoc before xs ys)
 
-with_bytes-nil : (taken : Option (List ℕ)) → with_bytes taken [] ≡ taken
+pub with_bytes-nil : (taken : Option (List ℕ)) → with_bytes taken [] ≡ taken
 with_bytes-nil None = refl
 with_bytes-nil (Some before) = ap Some (append-nil before)
 
@@ -56,12 +56,12 @@ stands_at (x ∷ xs) zero command within is = let same : x ≡ command = sym is 
 stands_at (x ∷ xs) (suc i) command within is = let later = stands_at xs i command (omega arith) is in record { here = later.here; got = later.got }
 
 -- the texts from a command on
-texts-here : (files : Files) (commands : List Command) (i : ℕ) (machine : Machine) (old now : Option (List ℕ)) (command : Command) → SoFar files commands i machine old now → StandsAt commands i command
+texts-here : (files : Files) (commands : List Command) (i : ℕ) (machine : State) (old now : Option (List ℕ)) (command : Command) → SoFar files commands i machine old now → StandsAt commands i command
     → drop i (texts files booted commands) ≡ text_of files machine command ∷ texts files (exec command files machine).1 (drop (suc i) commands)
 texts-here files commands i machine old now command so_far there = sym so_far.left ∙ ap (texts files machine) there.here
 
 -- one command more
-pub SoFar-more : (files : Files) (commands : List Command) (i : ℕ) (machine next : Machine) (old now new : Option (List ℕ)) (command : Command) → SoFar files commands i machine old now → StandsAt commands i command
+pub SoFar-more : (files : Files) (commands : List Command) (i : ℕ) (machine next : State) (old now new : Option (List ℕ)) (command : Command) → SoFar files commands i machine old now → StandsAt commands i command
     → next ≡ (exec command files machine).1 → new ≡ with_bytes now (text_of files machine command) → SoFar files commands (i + 1) next old new
 SoFar-more files commands i machine next old now new command so_far there went wrote =
     let all = texts files booted commands in
@@ -69,7 +69,7 @@ SoFar-more files commands i machine next old now new command so_far there went w
     let rest = texts files (exec command files machine).1 (drop (suc i) commands) in
     let here : drop i all ≡ text ∷ rest = texts-here files commands i machine old now command so_far there in
     rw (add-one i) (record {
-      left = ap (λ (m : Machine). texts files m (drop (suc i) commands)) went ∙ sym (drop-suc all rest i text here);
+      left = ap (λ (m : State). texts files m (drop (suc i) commands)) went ∙ sym (drop-suc all rest i text here);
       taken = wrote ∙ ap (λ (t : Option (List ℕ)). with_bytes t text) so_far.taken ∙ with_bytes-with_bytes old (concat (take i all)) text ∙ ap (with_bytes old) (sym (concat-take all rest i text here));
     })
 
@@ -87,7 +87,7 @@ take-append-le (suc n) [] ys h = absurd (omega arith)
 take-append-le (suc n) (x ∷ xs) ys h = ap (λ (zs : List ℕ). x ∷ zs) (take-append-le n xs ys (omega arith))
 
 -- the end of all commands
-pub SoFar-end : (files : Files) (commands : List Command) (i : ℕ) (machine : Machine) (old now : Option (List ℕ)) → length commands ≤ i → SoFar files commands i machine old now → now ≡ with_bytes old (concat (texts files booted commands))
+pub SoFar-end : (files : Files) (commands : List Command) (i : ℕ) (machine : State) (old now : Option (List ℕ)) → length commands ≤ i → SoFar files commands i machine old now → now ≡ with_bytes old (concat (texts files booted commands))
 SoFar-end files commands i machine old now past so_far =
     let all = texts files booted commands in
     let none : drop i commands ≡ [] = drop-past commands i past in
@@ -99,7 +99,7 @@ front-of [] ys n = let same : 0 + n ≡ n = omega arith in ap (λ (k : ℕ). tak
 front-of (x ∷ xs) ys n = let next : suc (length xs) + n ≡ suc (length xs + n) = omega arith in rw next (ap (λ (zs : List ℕ). x ∷ zs) (front-of xs ys n))
 
 -- how a replay ends where one command is the last
-pub stopped-here : (files : Files) (commands : List Command) (i : ℕ) (machine : Machine) (old now new : Option (List ℕ)) (command : Command) (stop : Stop) → SoFar files commands i machine old now → StandsAt commands i command
+pub stopped-here : (files : Files) (commands : List Command) (i : ℕ) (machine : State) (old now new : Option (List ℕ)) (command : Command) (stop : Stop) → SoFar files commands i machine old now → StandsAt commands i command
     → TakesTurn files machine command (Err stop) now new → Replays files commands (Err stop) old new
 stopped-here files commands i machine old now new command Shelf so_far there took =
     let reads : reads_at commands i ≡ true = rw there.got took.0 in

@@ -9,9 +9,10 @@ use Rattle.fw_types.specs.declared.reply.Reply.{Reply}
 use Rattle.fw_shelf.specs.Shelf.{Files, file_of}
 use Rattle.fw_shelf.specs.declared.shelf.ShelfFault.{ShelfFault}
 use Rattle.option_rom.specs.RomGrammar.{rom_in}
-use Rattle.replay_shell.specs.declared.machine.Machine.{Machine}
+use Rattle.world_model.specs.World.{State, on_hard}
+use Rattle.world_model.specs.Events.{command_begun, events_taken}
+use Rattle.world_model.specs.Opening.{opening}
 use Rattle.replay_shell.specs.declared.machine.Ending.{Ending}
-use Rattle.replay_shell.specs.World.{State, begin_command, first_image, without_events}
 use Rattle.replay_shell.specs.ImageLife.{Load, load_error, loaded, not_found}
 use Rattle.replay_shell.specs.RomLoad.{Tried, is_rom, none_tried, rom_status, with_images}
 use Rattle.replay_shell.specs.Report.{reply_text}
@@ -20,15 +21,9 @@ use Rattle.replay_shell.specs.Report.{reply_text}
 abbrev pub command_budget : ℕ
 command_budget = 4194304
 
--- no memory, no image, two handles, and the first address of images
-abbrev pub opening : State
-opening = record {
-  soft = record { memory = []; images = []; next_handle = 3; next_image = first_image };
-  hard = record { units = 0; events = [] };
-}
-
-abbrev pub booted : Machine
-booted = record { world = opening }
+-- the machine at first: the opening state, in which no image is loaded
+abbrev pub booted : State
+booted = opening.now
 
 -- what a command came to: notes on its images, how the option ROM ended that it loaded, its status, and
 -- the world then
@@ -63,7 +58,7 @@ load_done (Ok (Some file)) w = file_done file w
 load_done (Err fault) w = record { images = []; rom = None; status = load_error; world = w }
 
 -- the reply tells the units that were spent, and takes the events away
-abbrev pub replied : Done → Reply × Machine
+abbrev pub replied : Done → Reply × State
 replied done = (
   record {
     status = done.status;
@@ -73,16 +68,16 @@ replied done = (
     rom = done.rom;
     dump = [];
   },
-  record { world = without_events done.world },
+  on_hard events_taken done.world,
 )
 
 -- what a command gives over files, and the machine behind it
-abbrev pub exec : Command → Files → Machine → Reply × Machine
-exec (command.Load name) files machine = replied (load_done (file_of files name) (begin_command command_budget machine.world))
+abbrev pub exec : Command → Files → State → Reply × State
+exec (command.Load name) files w = replied (load_done (file_of files name) (on_hard (command_begun command_budget) w))
 
 -- the texts of commands and their replies, one after the other
-abbrev pub texts : Files → Machine → List Command → List (List ℕ)
-texts files machine [] = []
-texts files machine (command ∷ commands) =
-    let done : Reply × Machine = exec command files machine in
+abbrev pub texts : Files → State → List Command → List (List ℕ)
+texts files w [] = []
+texts files w (command ∷ commands) =
+    let done : Reply × State = exec command files w in
     reply_text command done.0 ∷ texts files done.1 commands

@@ -1,5 +1,5 @@
 -- The load of an image: UEFI 2.8, 7.4 LoadImage and StartImage, as one step.
-use Rattle.std.specs.Prelude.{ℕ, ◌+◌, ◌/◌, List, Option, Some, None, nat_lt, if◌then◌else◌}
+use Rattle.std.specs.Prelude.{ℕ, ◌+◌, List, Option, Some, None, Result, Ok, Err, if◌then◌else◌}
 use Rattle.fw_types.specs.Status.{error}
 use Rattle.fw_types.specs.declared.status.Status.{Status}
 use Rattle.fw_types.specs.declared.event.Outcome.{Outcome}
@@ -8,12 +8,13 @@ use Rattle.fw_types.specs.declared.image.PeRefusal.{PeRefusal}
 use Rattle.fw_types.specs.declared.image.PeRefusal.TheVariants as refusal
 use Rattle.fw_types.specs.declared.image.ImageNote.{ImageNote}
 use Rattle.fw_types.specs.declared.image.ImageNote.TheVariants.{Loaded, Failed, Refused}
-use Rattle.pe_image.specs.ImageRules.{entry_of, refusal_of, size_of}
-use Rattle.pe_image.specs.LaidImage.{laid}
-use Rattle.replay_shell.specs.declared.image.Image.{Image}
+use Rattle.pe_image.specs.ImageRules.{entry_of}
+use Rattle.world_model.specs.World.{Soft, State}
+use Rattle.image_table.specs.declared.fault.PlaceFault.{PlaceFault}
+use Rattle.image_table.specs.declared.fault.PlaceFault.TheVariants as place
+use Rattle.image_table.specs.Placing.{place_answer, placed}
+use Rattle.driver_model.specs.DriverCall.{entry_called, is_error, undone}
 use Rattle.replay_shell.specs.declared.image_life.Loading.{Loading}
-use Rattle.replay_shell.specs.World.{State, Soft, is_full_for, put_back, spend, with_image}
-use Rattle.replay_shell.specs.DriverCall.{entry_called, is_error}
 
 -- Statuses by name.
 abbrev pub success : Status
@@ -62,49 +63,38 @@ refusal_status refusal.Section = load_error
 refusal_status refusal.Reloc = load_error
 refusal_status refusal.Entry = load_error
 
--- laying an image costs a unit for each 64 bytes of its size, rounded up
-abbrev pub laying_price : List ℕ → ℕ
-laying_price file = (size_of file + 63) / 64
+-- what a load comes to whose image is not placed: the note on the image, and the status. That memory
+-- ran out is no answer to a file.
+abbrev pub fault_status : PlaceFault → Status
+fault_status (place.Refused refusal) = refusal_status refusal
+fault_status place.Units = aborted
+fault_status place.Full = out_of_resources
+fault_status place.OutOfMemory = out_of_resources
 
--- the image of a file, under the next handle and at the next address
-abbrev pub image_of : List ℕ → Soft → Image
-image_of file soft = record {
-  handle = soft.next_handle;
-  base = soft.next_image;
-  entry = soft.next_image + entry_of file;
-}
-
--- the soft part with the image of a file
-abbrev pub with_file : List ℕ → Soft → Soft
-with_file file soft = with_image (image_of file soft) (laid file soft.next_image) soft
+abbrev pub fault_note : PlaceFault → ImageNote
+fault_note (place.Refused refusal) = Refused refusal
+fault_note place.Units = Failed aborted
+fault_note place.Full = Failed out_of_resources
+fault_note place.OutOfMemory = Failed out_of_resources
 
 -- the status of a load whose entry ended so, where it failed
 abbrev pub failure_of : Outcome → Option Status
 failure_of (Value status) = if is_error status then Some status else None
 failure_of (Trapped cause) = Some aborted
 
-abbrev pub kept_unless : Option Status → Image → Soft → State → Load
-kept_unless None image before w = record { note = Loaded image.handle; status = success; world = w }
-kept_unless (Some status) image before w = failed status (put_back before w)
+abbrev pub kept_unless : Option Status → ℕ → Soft → State → Load
+kept_unless None image before w = record { note = Loaded image; status = success; world = w }
+kept_unless (Some status) image before w = failed status (undone before w)
 
 -- an image whose entry succeeded stays loaded; else the soft part is as before the load
-abbrev pub entered : Image → Soft → Outcome × State → Load
+abbrev pub entered : ℕ → Soft → Outcome × State → Load
 entered image before (outcome, w) = kept_unless (failure_of outcome) image before w
 
--- the image is placed and its entry called, unless a limit is met
-abbrev pub placed : List ℕ → State → Load
-placed file w =
-    if is_full_for (size_of file) w.soft then failed out_of_resources w
-    else
-    let image : Image = image_of file w.soft in
-    entered image w.soft (entry_called image (put_back (with_file file w.soft) w))
-
-abbrev pub loaded_unless : Option PeRefusal → List ℕ → State → Load
-loaded_unless (Some refusal) file w = record { note = Refused refusal; status = refusal_status refusal; world = w }
-loaded_unless None file w =
-    if nat_lt w.hard.units (laying_price file) then failed aborted w
-    else placed file (spend (laying_price file) w)
+-- where the image was placed its entry is called; else the load comes to why it was not
+abbrev pub load_by : Result ℕ PlaceFault → List ℕ → State → Load
+load_by (Ok image) file w = entered image w.soft (entry_called image (w.soft.next_image + entry_of file) (placed file 0 w))
+load_by (Err fault) file w = record { note = fault_note fault; status = fault_status fault; world = placed file 0 w }
 
 -- the load of a file's bytes
 abbrev pub loaded : List ℕ → State → Load
-loaded file w = loaded_unless (refusal_of file) file w
+loaded file w = load_by (place_answer file w) file w

@@ -1,8 +1,6 @@
 pub mod ScriptGrammar
 pub mod Report
-pub mod World
-pub mod GuestRun
-pub mod DriverCall
+pub mod Machine
 pub mod ImageLife
 pub mod RomLoad
 pub mod DriverModel

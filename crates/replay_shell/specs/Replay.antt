@@ -4,7 +4,7 @@ use Rattle.std.specs.List.{concat}
 use Rattle.fw_types.specs.declared.command.Command.{Command}
 use Rattle.fw_shelf.specs.Shelf.{Files}
 use Rattle.fw_shelf.specs.Sink.{with_bytes, TakesPrefix}
-use Rattle.replay_shell.specs.declared.machine.Machine.{Machine}
+use Rattle.world_model.specs.World.{State}
 use Rattle.replay_shell.specs.declared.machine.ExecFault.{ExecFault}
 use Rattle.replay_shell.specs.declared.machine.ExecFault.TheVariants.{ShelfFailed, OutOfMemory}
 use Rattle.replay_shell.specs.declared.replay.Stop.{Stop}
@@ -19,15 +19,15 @@ stop_of ShelfFailed = Shelf
 stop_of OutOfMemory = Memory
 
 -- the text of one command
-abbrev pub text_of : Files → Machine → Command → List ℕ
-text_of files machine command = reply_text command (exec command files machine).0
+abbrev pub text_of : Files → State → Command → List ℕ
+text_of files w command = reply_text command (exec command files w).0
 
 -- one command: its whole text was taken, or nothing of it unless the sink failed
-abbrev pub TakesTurn : Files → Machine → Command → Result Machine Stop → Option (List ℕ) → Option (List ℕ) → Type 0
-TakesTurn files machine command (Ok next) old new = (next ≡ (exec command files machine).1) × (new ≡ with_bytes old (text_of files machine command))
-TakesTurn files machine command (Err Shelf) old new = (reads_file command ≡ true) × (new ≡ old)
-TakesTurn files machine command (Err Sink) old new = TakesPrefix old (text_of files machine command) new
-TakesTurn files machine command (Err Memory) old new = new ≡ old
+abbrev pub TakesTurn : Files → State → Command → Result State Stop → Option (List ℕ) → Option (List ℕ) → Type 0
+TakesTurn files w command (Ok next) old new = (next ≡ (exec command files w).1) × (new ≡ with_bytes old (text_of files w command))
+TakesTurn files w command (Err Shelf) old new = (reads_file command ≡ true) × (new ≡ old)
+TakesTurn files w command (Err Sink) old new = TakesPrefix old (text_of files w command) new
+TakesTurn files w command (Err Memory) old new = new ≡ old
 
 -- all commands from the opening state
 abbrev pub Replays : Files → List Command → Result (Unit {0}) Stop → Option (List ℕ) → Option (List ℕ) → Type 0

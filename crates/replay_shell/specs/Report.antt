@@ -50,8 +50,10 @@ cause_word cause.Memory = codes "Memory"
 cause_word cause.Align = codes "Align"
 cause_word cause.Divide = codes "Divide"
 cause_word cause.Break = codes "Break"
+cause_word cause.BadCall = codes "BadCall"
+cause_word cause.Nest = codes "Nest"
 cause_word cause.Budget = codes "Budget"
-cause_word cause.NotBuilt = codes "NotBuilt"
+cause_word cause.Thunks = codes "Thunks"
 
 abbrev pub outcome_word : Outcome → List ℕ
 outcome_word (Value status) = status_word status

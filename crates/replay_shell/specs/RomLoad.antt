@@ -7,7 +7,7 @@ use Rattle.fw_types.specs.declared.image.ImageNote.{ImageNote}
 use Rattle.fw_types.specs.declared.image.ImageNote.TheVariants.{Loaded, Failed, Refused, Compressed, Skipped}
 use Rattle.option_rom.specs.RomGrammar.{Image}
 use Rattle.replay_shell.specs.declared.rom_load.Tried.{Tried as Told}
-use Rattle.replay_shell.specs.World.{State}
+use Rattle.world_model.specs.World.{State}
 use Rattle.replay_shell.specs.ImageLife.{Load, loaded, success, unsupported}
 
 -- whether a file is an option ROM: it begins with the signature of its header

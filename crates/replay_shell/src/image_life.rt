@@ -1,14 +1,19 @@
-ghost use Rattle.std.specs.Prelude.{◌≡◌, ◌≤◌, None, IfOk, OnOk, false, length};
-ghost use Rattle.replay_shell.specs.World.{Soft, Spends, is_full_for, put_back, with_image};
-ghost use Rattle.replay_shell.specs.DriverCall.{entry_called, kept_or_undone};
-ghost use Rattle.replay_shell.specs.ImageLife.{came_of, entered, failure_of, image_of, laying_price, loaded, loaded_unless, placed, refusal_status};
+ghost use Rattle.std.specs.Prelude.{◌≡◌, ◌≢◌, ℕ, Some, IfOk, OnOk, is_some, true};
+ghost use Rattle.world_model.specs.World.{Soft};
+ghost use Rattle.world_model.specs.Images.{entry_of};
+ghost use Rattle.world_model.specs.Marks.{depth};
+ghost use Rattle.driver_model.specs.DriverCall.{entry_called, kept_or_undone};
+ghost use Rattle.driver_model.specs.Spending.{Spends};
+ghost use Rattle.replay_shell.specs.Machine.{IsAtRest, IsOnTrial, kept_soft};
+ghost use Rattle.replay_shell.specs.ImageLife.{came_of, entered, failure_of, fault_note, fault_status, loaded, refusal_status};
 
-use crate::driver_call::call_entry;
-use crate::image::Image;
-use crate::soft_part::SoftPart;
-use crate::world::World;
-use fw_types::{ImageNote, OutOfMemory, Outcome, PeRefusal, Status};
-use pe_image::{PeView, check, lay};
+use bind_engine::call_entry;
+use fw_types::{Handle, ImageNote, OutOfMemory, Outcome, PeRefusal, Status};
+use fw_world::{Mark, World};
+use image_table::{PlaceFault, place};
+
+/// The device of an image that comes from no device.
+const NO_DEVICE: u64 = 0;
 
 /// What came of an image, and the status of its load.
 #[derive(Clone, Copy, Debug)]
@@ -35,25 +40,6 @@ fn status_of(refusal: PeRefusal) -> Status
     }
 }
 
-/// The units for laying an image: one for each 64 bytes of its size, rounded up.
-fn price_of(view: &PeView<'_>) -> u64
-    ensures { result ≡ laying_price view.now }
-{
-    u64::from(view.size()).div_ceil(64)
-}
-
-/// The image of a file, under the next handle and at the next address.
-fn image_at_next(world: &World, view: &PeView<'_>) -> Image
-    ensures { result ≡ image_of view.now world.now.soft }
-{
-    let base = world.next_image();
-    Image {
-        handle: world.next_handle(),
-        base,
-        entry: base + u64::from(view.entry()),
-    }
-}
-
 /// The status of a load whose entry ended so, where it failed.
 fn failure(outcome: Outcome) -> Option<Status>
     ensures { result ≡ failure_of outcome }
@@ -65,75 +51,101 @@ fn failure(outcome: Outcome) -> Option<Status>
     }
 }
 
-/// Keeps an image whose entry ended so, or puts the soft part back where it failed.
-fn settle(world: &mut World, before: SoftPart, image: &Image, outcome: Outcome) -> Loading
-    ensures done { (placed : Soft) → entered image.now before (kept_or_undone placed (outcome, world.old))
-        ≡ came_of result world.new }
-    ensures hard { world.new.hard ≡ world.old.hard }
+/// Keeps an image whose entry ended so, or puts the soft part back that the mark keeps where it failed.
+fn settle(
+    world: &mut World,
+    mark: Mark,
+    image: Handle,
+    outcome: Outcome,
+) -> Result<Loading, OutOfMemory>
+    requires trial { IsOnTrial world.old }
+    requires newest { mark ≡ depth world.old }
+    ensures done { (made : Soft) → IfOk result (λ loading.
+        entered image (kept_soft world.old) (kept_or_undone made (outcome, world.old.now))
+        ≡ came_of loading world.new.now) }
+    ensures hard { OnOk result (world.new.now.hard ≡ world.old.now.hard) }
+    ensures rest { OnOk result (IsAtRest world.new) }
 {
     match failure(outcome) {
-        None => Loading {
-            note: ImageNote::Loaded(image.handle),
-            status: Status::SUCCESS,
-        },
+        None => {
+            world.commit(mark);
+            Ok(Loading {
+                note: ImageNote::Loaded(image),
+                status: Status::SUCCESS,
+            })
+        }
         Some(status) => {
-            world.rollback(before);
-            failed(status)
+            world.rollback(mark)?;
+            Ok(failed(status))
         }
     }
 }
 
-/// Places an image and calls its entry; where that fails the soft part is as before.
-fn enter(world: &mut World, image: Image, bytes: Vec<u8>) -> Result<Loading, OutOfMemory>
-    requires some { 1 ≤ length bytes.items }
-    requires room { is_full_for (length bytes.items) world.old.soft ≡ false }
-    ensures done { IfOk result (λ loading.
-        entered image world.old.soft (entry_called image (put_back (with_image image bytes.items world.old.soft) world.old))
-        ≡ came_of loading world.new) }
-    ensures spends { OnOk result (Spends world.old world.new) }
+/// The address of the entry point of an image that is loaded.
+fn entry_point(world: &World, image: Handle) -> u64
+    requires { is_some (entry_of image world.now.now.soft) ≡ true }
+    ensures { entry_of image world.now.now.soft ≡ Some result }
 {
-    let before = world.mark()?;
-    world.add_image(image, bytes)?;
-    let outcome = call_entry(world, &image)?;
-    Ok(settle(world, before, &image, outcome))
-}
-
-/// Places and enters the image of an accepted file, unless a limit is met.
-fn place(world: &mut World, view: &PeView<'_>) -> Result<Loading, OutOfMemory>
-    ensures done { IfOk result (λ loading. placed view.now world.old ≡ came_of loading world.new) }
-    ensures spends { OnOk result (Spends world.old world.new) }
-{
-    if world.is_full_for(view.size()) {
-        return Ok(failed(Status::OUT_OF_RESOURCES));
+    match world.entry_of(image.get()) {
+        Some(entry) => entry,
+        None => unreachable!(),
     }
-    let image = image_at_next(world, view);
-    let bytes = lay(world.alloc(), view, image.base)?;
-    enter(world, image, bytes)
 }
 
-/// Loads the image that the bytes of a file are (UEFI 2.8, 7.4: LoadImage and StartImage): checks
-/// it, lays it, and calls its entry point.
-pub fn load_image(world: &mut World, file: &[u8]) -> Result<Loading, OutOfMemory>
-    ensures done { IfOk result (λ loading. loaded file.now world.old ≡ came_of loading world.new) }
-    ensures spends { OnOk result (Spends world.old world.new) }
+/// Calls the entry of an image that was placed since the mark; where that fails the soft part is as at
+/// the mark.
+fn enter(world: &mut World, mark: Mark, image: Handle) -> Result<Loading, OutOfMemory>
+    requires trial { IsOnTrial world.old }
+    requires newest { mark ≡ depth world.old }
+    requires placed { is_some (entry_of image world.old.now.soft) ≡ true }
+    ensures done { (entry : ℕ) → entry_of image world.old.now.soft ≡ Some entry → IfOk result (λ loading.
+        entered image (kept_soft world.old) (entry_called image entry world.old.now)
+        ≡ came_of loading world.new.now) }
+    ensures spends { OnOk result (Spends world.old.now world.new.now) }
+    ensures rest { OnOk result (IsAtRest world.new) }
 {
-    match check(file) {
-        Err(refusal) => Ok(Loading {
+    let entry = entry_point(world, image);
+    let outcome = call_entry(world, image, entry)?;
+    settle(world, mark, image, outcome)
+}
+
+/// What a load comes to whose image was not placed.
+fn not_placed(fault: PlaceFault) -> Result<Loading, OutOfMemory>
+    ensures told { IfOk result (λ loading.
+        loading ≡ record { note = fault_note fault; status = fault_status fault }) }
+    ensures memory { OnOk result (fault ≢ PlaceFault.OutOfMemory) }
+{
+    match fault {
+        PlaceFault::Refused(refusal) => Ok(Loading {
             note: ImageNote::Refused(refusal),
             status: status_of(refusal),
         }),
-        Ok(view) => pay_and_place(world, &view),
+        PlaceFault::Units => Ok(failed(Status::ABORTED)),
+        PlaceFault::Full => Ok(failed(Status::OUT_OF_RESOURCES)),
+        PlaceFault::OutOfMemory => Err(OutOfMemory),
     }
 }
 
-/// Pays the price of laying an accepted file, and places it.
-fn pay_and_place(world: &mut World, view: &PeView<'_>) -> Result<Loading, OutOfMemory>
-    ensures done { IfOk result (λ loading.
-        loaded_unless None view.now world.old ≡ came_of loading world.new) }
-    ensures spends { OnOk result (Spends world.old world.new) }
+/// Loads the image that the bytes of a file are (UEFI 2.8, 7.4: LoadImage and StartImage): places it,
+/// and calls its entry point. Where that fails the soft part is as before.
+///
+/// # Errors
+///
+/// `OutOfMemory` where there is no memory.
+pub fn load_image(world: &mut World, file: &[u8]) -> Result<Loading, OutOfMemory>
+    requires { IsAtRest world.old }
+    ensures done { IfOk result
+        (λ loading. loaded file.now world.old.now ≡ came_of loading world.new.now) }
+    ensures spends { OnOk result (Spends world.old.now world.new.now) }
+    ensures rest { OnOk result (IsAtRest world.new) }
 {
-    if !world.spend(price_of(view)) {
-        return Ok(failed(Status::ABORTED));
+    let mark = world.mark()?;
+    match place(world, file, NO_DEVICE) {
+        Ok(image) => enter(world, mark, image),
+        Err(fault) => {
+            let loading = not_placed(fault)?;
+            world.commit(mark);
+            Ok(loading)
+        }
     }
-    place(world, view)
 }

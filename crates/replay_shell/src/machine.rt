@@ -2,7 +2,8 @@ ghost use Rattle.std.specs.Prelude.{◌≡◌, ◌≤◌, ◌*◌, [], ◌∷◌
 ghost use Rattle.fw_shelf.specs.Faults.{Rose};
 ghost use Rattle.fw_shelf.specs.Shelf.{Files, file_of};
 ghost use Rattle.replay_shell.specs.declared.machine.ExecFault.TheVariants.{OutOfMemory as NoMemory};
-ghost use Rattle.replay_shell.specs.World.{Spends};
+ghost use Rattle.driver_model.specs.Spending.{Spends};
+ghost use Rattle.replay_shell.specs.Machine.{IsAtRest};
 ghost use Rattle.replay_shell.specs.ImageLife.{loaded};
 ghost use Rattle.option_rom.specs.RomGrammar.{rom_in};
 ghost use Rattle.replay_shell.specs.RomLoad.{none_tried, with_images};
@@ -10,20 +11,32 @@ ghost use Rattle.replay_shell.specs.DriverModel.{booted, came_of, command_budget
 
 use crate::image_life::load_image;
 use crate::rom_load::{is_rom, load_images};
-use crate::world::World;
 use fw_shelf::{Shelf, ShelfFault};
 use fw_types::{Command, ImageNote, OutOfMemory, Reply, RomEnd, Rows, Status};
+use fw_world::World;
 use std::alloc::Global;
+use std::marker::Model;
 use thiserror::Error;
 
 /// The units of each command.
-const COMMAND_BUDGET: u64 = 4_194_304;
+const COMMAND_BUDGET: u32 = 4_194_304;
 
-/// The machine, which is handed from command to command.
+/// The machine, which is handed from command to command. A contract sees the state of its world: no
+/// mark is open in it, and no stack stands.
 #[derive(Drop)]
 pub struct Machine {
-    /// Its handles and images, and what the command before left.
-    pub world: World,
+    world: World,
+}
+
+impl Model for Machine {
+    ghost use Rattle.world_model.specs.World.{State};
+    ghost use Rattle.replay_shell.specs.Machine.{IsAtRest};
+
+    ghost Value = { State };
+
+    ghost view = { λ machine. machine.world.now };
+
+    ghost invariant = { λ machine. IsAtRest machine.world };
 }
 
 /// Why a command gave no reply. The machine is gone then.
@@ -81,10 +94,12 @@ fn with_note(alloc: Global, note: ImageNote, status: Status) -> Result<Ending, O
 
 /// Loads what a file is: the images of an option ROM, or one image.
 fn load_file(world: &mut World, file: &[u8]) -> Result<Ending, ExecFault>
+    requires { IsAtRest world.old }
     ensures told { IfOk result
-        (λ ending. file_done file.now world.old ≡ came_of ending world.new) }
+        (λ ending. file_done file.now world.old.now ≡ came_of ending world.new.now) }
     ensures memory { IfErr result (λ fault. fault ≡ NoMemory) }
-    ensures spends { OnOk result (Spends world.old world.new) }
+    ensures spends { OnOk result (Spends world.old.now world.new.now) }
+    ensures rest { OnOk result (IsAtRest world.new) }
 {
     if is_rom(file) {
         load_rom(world, file)
@@ -95,11 +110,13 @@ fn load_file(world: &mut World, file: &[u8]) -> Result<Ending, ExecFault>
 
 /// Loads the images of an option ROM.
 fn load_rom(world: &mut World, file: &[u8]) -> Result<Ending, ExecFault>
+    requires { IsAtRest world.old }
     ensures told { IfOk result (λ ending.
-        rom_noted (with_images (rom_in file.now).images (none_tried world.old)) (rom_in file.now).end
-        ≡ came_of ending world.new) }
+        rom_noted (with_images (rom_in file.now).images (none_tried world.old.now)) (rom_in file.now).end
+        ≡ came_of ending world.new.now) }
     ensures memory { IfErr result (λ fault. fault ≡ NoMemory) }
-    ensures spends { OnOk result (Spends world.old world.new) }
+    ensures spends { OnOk result (Spends world.old.now world.new.now) }
+    ensures rest { OnOk result (IsAtRest world.new) }
 {
     let (tried, rom) = load_images(world, file)?;
     let status = tried.status();
@@ -112,10 +129,12 @@ fn load_rom(world: &mut World, file: &[u8]) -> Result<Ending, ExecFault>
 
 /// Loads the image that a file is.
 fn load_one(world: &mut World, file: &[u8]) -> Result<Ending, ExecFault>
+    requires { IsAtRest world.old }
     ensures told { IfOk result
-        (λ ending. noted (loaded file.now world.old) ≡ came_of ending world.new) }
+        (λ ending. noted (loaded file.now world.old.now) ≡ came_of ending world.new.now) }
     ensures memory { IfErr result (λ fault. fault ≡ NoMemory) }
-    ensures spends { OnOk result (Spends world.old world.new) }
+    ensures spends { OnOk result (Spends world.old.now world.new.now) }
+    ensures rest { OnOk result (IsAtRest world.new) }
 {
     let loading = load_image(world, file)?;
     Ok(with_note(world.alloc(), loading.note, loading.status)?)
@@ -123,14 +142,16 @@ fn load_one(world: &mut World, file: &[u8]) -> Result<Ending, ExecFault>
 
 /// Loads the file of a name.
 fn load<F: Shelf>(world: &mut World, name: &str, shelf: &mut F) -> Result<Ending, ExecFault>
+    requires { IsAtRest world.old }
     ensures told { (files : Files) → F.held shelf.old ≡ Some files → IfOk result
-        (λ ending. load_done (file_of files name.now) world.old ≡ came_of ending world.new) }
+        (λ ending. load_done (file_of files name.now) world.old.now ≡ came_of ending world.new.now) }
     ensures failed { IsErrOf result ExecFault.ShelfFailed
         → Rose (F.faults shelf.old) (F.faults shelf.new) }
     ensures held { F.held shelf.new ≡ F.held shelf.old }
     ensures faults { F.faults shelf.old ≤ F.faults shelf.new }
     ensures becomes { F.becomes shelf.old shelf.new }
-    ensures spends { OnOk result (Spends world.old world.new) }
+    ensures spends { OnOk result (Spends world.old.now world.new.now) }
+    ensures rest { OnOk result (IsAtRest world.new) }
 {
     let alloc = world.alloc();
     match shelf.read(alloc, name) {
@@ -143,14 +164,18 @@ fn load<F: Shelf>(world: &mut World, name: &str, shelf: &mut F) -> Result<Ending
 }
 
 impl Machine {
-    /// A machine in its opening state: the firmware has handle 1, the PCI bus driver handle 2, and
-    /// no image is loaded.
-    pub fn boot(alloc: Global) -> Machine
-        ensures { result ≡ booted }
+    /// A machine in its opening state: the firmware has handle 1, the PCI bus driver handle 2, the
+    /// firmware's tables are mapped, and no image is loaded.
+    ///
+    /// # Errors
+    ///
+    /// `OutOfMemory` where there is no memory.
+    pub fn boot(alloc: Global) -> Result<Machine, OutOfMemory>
+        ensures { IfOk result (λ machine. machine ≡ booted) }
     {
-        Machine {
-            world: World::new(alloc),
-        }
+        Ok(Machine {
+            world: World::new(alloc)?,
+        })
     }
 
     /// Does what a command asks for, with the files of a shelf: the machine behind it, and its
@@ -183,10 +208,11 @@ impl Machine {
 
 /// The reply that tells how a command ended, and the machine behind it.
 fn reply(mut world: World, ending: Ending) -> (Machine, Reply)
-    requires { world.hard.units ≤ command_budget }
-    ensures { replied (came_of ending world) ≡ (result.1, result.0) }
+    requires rest { IsAtRest world }
+    requires units { world.now.hard.units ≤ command_budget }
+    ensures { replied (came_of ending world.now) ≡ (result.1, result.0) }
 {
-    let units = COMMAND_BUDGET - world.left();
+    let units = u64::from(COMMAND_BUDGET) - world.left();
     let events = world.take_events();
     let reply = Reply {
         status: ending.status,

@@ -3,19 +3,15 @@
 //!
 //! The way of a command: `respond` reads the words, `read` turns the script's lines into commands,
 //! `replay` hands the machine from command to command, `machine` does one command (`image_life`
-//! loads an image, `driver_call` calls its entry point, `guest_run` runs its code, all on the
-//! `world`), and `report` writes its text. `top` is all of it over any shelf and any sink.
+//! loads an image, whose entry point `bind_engine` calls), and `report` writes its text. `top` is all
+//! of it over any shelf and any sink.
 #![tactic(auto)]
 
 mod disasm;
-mod driver_call;
-mod guest_run;
-mod image;
 mod image_life;
 #[cfg(test)]
 mod image_tests;
 mod machine;
-mod mapping;
 mod read;
 mod replay;
 mod report;
@@ -24,12 +20,12 @@ mod respond;
 mod rom_load;
 mod say;
 mod script;
-mod soft_part;
+#[cfg(test)]
+mod service_tests;
 #[cfg(test)]
 mod tests;
 mod top;
 mod words;
-mod world;
 
 use fw_shelf::{DirShelf, OutSink};
 use std::alloc::AllocError;

@@ -93,7 +93,7 @@ pub fn replay<F: Shelf, K: Sink>(
     ensures sink_faults { K.faults sink.old ≤ K.faults sink.new }
     ensures becomes { F.becomes shelf.old shelf.new × K.becomes sink.old sink.new }
 {
-    let mut machine = Machine::boot(alloc);
+    let mut machine = Machine::boot(alloc)?;
     for command in script.commands.as_slice() {
         machine = take_turn(alloc, machine, command, shelf, sink)?;
     }

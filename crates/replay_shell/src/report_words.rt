@@ -54,8 +54,10 @@ pub fn cause_name(cause: Cause) -> &'static str
         Cause::Align => "Align",
         Cause::Divide => "Divide",
         Cause::Break => "Break",
+        Cause::BadCall => "BadCall",
+        Cause::Nest => "Nest",
         Cause::Budget => "Budget",
-        Cause::NotBuilt => "NotBuilt",
+        Cause::Thunks => "Thunks",
     }
 }
 

@@ -1,12 +1,14 @@
 ghost use Rattle.std.specs.Prelude.{◌≡◌, Some, IfOk, OnOk};
-ghost use Rattle.replay_shell.specs.World.{Spends, State};
+ghost use Rattle.world_model.specs.World.{State};
+ghost use Rattle.driver_model.specs.Spending.{Spends};
+ghost use Rattle.replay_shell.specs.Machine.{IsAtRest};
 ghost use Rattle.replay_shell.specs.ImageLife.{came_of as load_came_of, loaded};
 ghost use Rattle.replay_shell.specs.RomLoad.{came_of, is_driver, is_rom, none_tried, rom_status, stays, with_image, with_images, with_load, with_note};
 ghost use Rattle.option_rom.specs.RomGrammar.{rom_in};
 
 use crate::image_life::{Loading, load_image};
-use crate::world::World;
 use fw_types::{ImageNote, OutOfMemory, RomEnd, Status};
+use fw_world::World;
 use option_rom::{RomImage, images};
 use std::alloc::Global;
 
@@ -95,9 +97,11 @@ fn is_driver(image: &RomImage<'_>) -> bool
 
 /// Loads a driver.
 fn try_driver(world: &mut World, tried: &mut Tried, file: &[u8]) -> Result<(), OutOfMemory>
-    ensures done { OnOk result (with_load (loaded file.now world.old) (came_of tried.old world.old)
-        ≡ came_of tried.new world.new) }
-    ensures spends { OnOk result (Spends world.old world.new) }
+    requires { IsAtRest world.old }
+    ensures done { OnOk result (with_load (loaded file.now world.old.now) (came_of tried.old world.old.now)
+        ≡ came_of tried.new world.new.now) }
+    ensures spends { OnOk result (Spends world.old.now world.new.now) }
+    ensures rest { OnOk result (IsAtRest world.new) }
 {
     let loading = load_image(world, file)?;
     tried.note_load(loading)
@@ -105,9 +109,11 @@ fn try_driver(world: &mut World, tried: &mut Tried, file: &[u8]) -> Result<(), O
 
 /// Loads an image, or notes why it is not tried.
 fn try_image(world: &mut World, tried: &mut Tried, image: &RomImage<'_>) -> Result<(), OutOfMemory>
-    ensures done { OnOk result (with_image image.now (came_of tried.old world.old)
-        ≡ came_of tried.new world.new) }
-    ensures spends { OnOk result (Spends world.old world.new) }
+    requires { IsAtRest world.old }
+    ensures done { OnOk result (with_image image.now (came_of tried.old world.old.now)
+        ≡ came_of tried.new world.new.now) }
+    ensures spends { OnOk result (Spends world.old.now world.new.now) }
+    ensures rest { OnOk result (IsAtRest world.new) }
 {
     if !is_driver(image) {
         return tried.note(ImageNote::Skipped);
@@ -120,10 +126,12 @@ fn try_image(world: &mut World, tried: &mut Tried, image: &RomImage<'_>) -> Resu
 
 /// Loads the images of an option ROM, in order: what came of them, and how the ROM ended.
 pub fn load_images(world: &mut World, file: &[u8]) -> Result<(Tried, Option<RomEnd>), OutOfMemory>
-    ensures done { IfOk result (λ told. with_images (rom_in file.now).images (none_tried world.old)
-        ≡ came_of told.0 world.new) }
+    requires { IsAtRest world.old }
+    ensures done { IfOk result (λ told. with_images (rom_in file.now).images (none_tried world.old.now)
+        ≡ came_of told.0 world.new.now) }
     ensures end { IfOk result (λ told. told.1 ≡ Some (rom_in file.now).end) }
-    ensures spends { OnOk result (Spends world.old world.new) }
+    ensures spends { OnOk result (Spends world.old.now world.new.now) }
+    ensures rest { OnOk result (IsAtRest world.new) }
 {
     let mut tried = Tried::new(world.alloc());
     let mut walk = images(file);

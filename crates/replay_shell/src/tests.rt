@@ -71,7 +71,7 @@ pub fn run_words(alloc: Global, name: &str) -> Result<Vec<String>, AllocError> {
 }
 
 /// Replays a script over the images of some code, into a sink with room for all.
-fn replayed(
+pub fn replayed(
     alloc: Global,
     script: &[u8],
     a: &[u8],
@@ -116,12 +116,12 @@ fn loads_are_replayed(rt: HostRuntime) -> Result<(), Fail> {
             SMALLEST,
             "> load a.efi\n1 0 entry 3 0 0 SUCCESS\nimage 1 handle 3\n= SUCCESS 82\n",
         ),
-        // BREAK 5 asks for a thunk.
+        // BREAK 5 asks for a thunk at the address 0.
         (
             "load a.efi\n",
             b"\x00\x05\x04\x00",
             SMALLEST,
-            "> load a.efi\n1 0 entry 3 0 0 trap:NotBuilt\nimage 1 ABORTED\n= ABORTED 81\n",
+            "> load a.efi\n1 0 entry 3 0 0 trap:Memory\nimage 1 ABORTED\n= ABORTED 81\n",
         ),
         // A jump to itself.
         (
@@ -130,12 +130,12 @@ fn loads_are_replayed(rt: HostRuntime) -> Result<(), Fail> {
             SMALLEST,
             "> load a.efi\n1 0 entry 3 0 0 trap:Budget\nimage 1 ABORTED\n= ABORTED 1048592\n",
         ),
-        // A call of Stall reads the system table, which is not there.
+        // A native call of Stall, whose address the firmware's tables have, and of SetTimer.
         (
-            "load a.efi\n",
+            "load a.efi\nload b.efi\n",
             b"\x60\x84\x18\x00\x60\xC4\x60\x00\x35\x05\x83\x2C\xF8\x00\x00\x00\x36\x05\x04\x00",
-            SMALLEST,
-            "> load a.efi\n1 0 entry 3 0 0 trap:Memory\nimage 1 ABORTED\n= ABORTED 82\n",
+            b"\x60\x84\x18\x00\x60\xC4\x60\x00\x35\x05\x83\x2C\x58\x00\x00\x00\x36\x05\x04\x00",
+            "> load a.efi\n1 0 entry 3 0 0 SUCCESS\nimage 1 handle 3\n= SUCCESS 87\n> load b.efi\n1 0 entry 4 0 0 UNSUPPORTED\nimage 1 UNSUPPORTED\n= UNSUPPORTED 87\n",
         ),
         // A warning is a success; an error with a name, and one without.
         (
@@ -189,6 +189,39 @@ fn what_a_failed_entry_wrote_is_undone(rt: HostRuntime) -> Result<(), Fail> {
         let (status, sink) = replayed(rt.alloc(), script, READER, code)?;
         assert_eq!(rt; status, 0);
         assert_eq!(rt; sink.taken(), report.as_bytes());
+    }
+    Ok(())
+}
+
+#[test]
+fn a_driver_sees_what_the_firmware_maps(rt: HostRuntime) -> Result<(), Fail> {
+    // MOVI to R1 of an address, and what the code does there; and the report behind its first line.
+    let cases: [(&[u8], &str); 4] = [
+        // The signature of the system table.
+        (
+            b"\xB7\x31\x00\x00\x01\x00\x20\x97\x04\x00",
+            "1 0 entry 3 0 0 0x5453595320494249\nimage 1 handle 3\n= SUCCESS 83\n",
+        ),
+        // ImageBase in the loaded image block of the image itself.
+        (
+            b"\xF7\x31\x40\x00\x00\x00\x01\x00\x00\x00\x20\x97\x04\x00",
+            "1 0 entry 3 0 0 0x0000000002000000\nimage 1 handle 3\n= SUCCESS 83\n",
+        ),
+        // MOVIqw @R1, 5 to the system table, and to the loaded image block.
+        (
+            b"\xB7\x31\x00\x00\x01\x00\x77\x39\x05\x00\x04\x00",
+            "1 0 entry 3 0 0 trap:Memory\nimage 1 ABORTED\n= ABORTED 82\n",
+        ),
+        (
+            b"\xF7\x31\x58\x00\x00\x00\x01\x00\x00\x00\x77\x39\x05\x00\x04\x00",
+            "1 0 entry 3 0 0 SUCCESS\nimage 1 handle 3\n= SUCCESS 83\n",
+        ),
+    ];
+    for (code, said) in cases {
+        let (status, sink) = replayed(rt.alloc(), b"load a.efi\n", code, SMALLEST)?;
+        let report = format!(in rt.alloc(); "> load a.efi\n{said}")?;
+        assert_eq!(rt; status, 0, "at {said}");
+        assert_eq!(rt; sink.taken(), report.as_bytes(), "at {said}");
     }
     Ok(())
 }

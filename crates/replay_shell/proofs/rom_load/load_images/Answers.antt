@@ -5,7 +5,8 @@ use Rattle.replay_shell.proofs.rom_load.load_images.Goals as goal
 
 pub loop-image-init : goal.loop-image-init
 loop-image-init c = rw c.images-walk.ensures.walk (record {
-  done = ap (λ (tried : Tried). with_images (rom_in c.args.file.now).images tried) (c.new-tried.ensures c.args.world.now);
+  done = ap (λ (tried : Tried). with_images (rom_in c.args.file.now).images tried) (c.new-tried.ensures c.args.world.now.now);
   end = refl;
   spends = record { falls = omega arith; paid = omega arith };
+  rest = c.requires;
 })

@@ -1,0 +1,126 @@
+-- A load: what placing its image leaves, and how the marked world goes on.
+use Rattle.std.proofs.Common.{◌≡◌, ◌≢◌, ℕ, ◌+◌, Bool, true, false, List, [], ◌∷◌, refl, sym, ap, subst, ◌∙◌, arith}
+use Rattle.std.specs.Prelude.{Option, Some, None, Result, Ok, Err, IfOk, nat_lt, if◌then◌else◌}
+use Rattle.fw_types.specs.declared.memory.OutOfMemory.{OutOfMemory}
+use Rattle.fw_types.specs.declared.event.Outcome.{Outcome}
+use Rattle.fw_types.specs.declared.image.PeRefusal.{PeRefusal}
+use Rattle.pe_image.specs.ImageRules.{entry_of, refusal_of, size_of, subsystem_of}
+use Rattle.pe_image.specs.LaidImage.{laid}
+use Rattle.world_model.specs.World.{Held, Soft, State, on_hard, on_soft}
+use Rattle.world_model.specs.Units.{units_spent}
+use Rattle.world_model.specs.Images.{entry_of as entry_in, is_image_full}
+use Rattle.world_model.specs.Marks.{marked, put_back, stacks}
+use Rattle.world_model.proofs.StacksStand.{adding}
+use Rattle.image_table.specs.declared.fault.PlaceFault.{PlaceFault}
+use Rattle.image_table.specs.declared.fault.PlaceFault.TheVariants as place
+use Rattle.image_table.specs.Placing.{Gives, UnlessMemory, added_unless_full, file_added, laying_price, place_answer, placed, placed_unless}
+use Rattle.replay_shell.specs.declared.image_life.Loading.{Loading}
+use Rattle.driver_model.specs.DriverCall.{entry_called, entry_made, kept_or_undone}
+use Rattle.driver_model.specs.Spending.{Spends}
+use Rattle.replay_shell.specs.Machine.{IsOnTrial, kept_soft}
+use Rattle.replay_shell.specs.ImageLife.{came_of, entered, fault_note, fault_status, load_by, loaded}
+
+-- ---- placing
+
+-- what placing leaves of the world, whatever it answers
+record Leaves (old new : State) : Type 0 where
+  same_stacks : stacks new.soft ≡ stacks old.soft
+  spends : Spends old new
+
+leaves_itself : (w : State) → Leaves w w
+leaves_itself w = record { same_stacks = refl; spends = record { falls = omega arith; paid = omega arith } }
+
+leaves_added : (file : List ℕ) (w : State) (price : ℕ) (full : Bool) → Leaves w (let paid : State = on_hard (units_spent price) w in if full then paid else on_soft (file_added file 0) paid)
+leaves_added file w price true = record { same_stacks = refl; spends = record { falls = omega arith; paid = omega arith } }
+leaves_added file w price false = record {
+  same_stacks = adding w.soft (laid file w.soft.next_image) (entry_of file) (subsystem_of file) 0;
+  spends = record { falls = omega arith; paid = omega arith };
+}
+
+leaves_accepted : (file : List ℕ) (w : State) (few : Bool) → Leaves w (if few then w else added_unless_full file 0 (on_hard (units_spent (laying_price file)) w))
+leaves_accepted file w true = leaves_itself w
+leaves_accepted file w false = leaves_added file w (laying_price file) (is_image_full (size_of file) w.soft)
+
+leaves_unless : (refusal : Option PeRefusal) (file : List ℕ) (w : State) → Leaves w (placed_unless refusal file 0 w)
+leaves_unless (Some refusal) file w = leaves_itself w
+leaves_unless None file w = leaves_accepted file w (nat_lt w.hard.units (laying_price file))
+
+pub stacks-placed : (file : List ℕ) (w : State) → stacks (placed file 0 w).soft ≡ stacks w.soft
+stacks-placed file w = (leaves_unless (refusal_of file) file w).same_stacks
+
+pub spends-placed : (file : List ℕ) (w : State) → Spends w (placed file 0 w)
+spends-placed file w = (leaves_unless (refusal_of file) file w).spends
+
+-- ---- the mark of a load
+
+kept_soft-is : (w : Held) (before : Soft) → w.kept ≡ before ∷ [] → kept_soft w ≡ before
+kept_soft-is w before marked = ap (λ (kept : List Soft). (put_back kept w.now).soft) marked
+
+-- a world whose one mark keeps a soft part without stacks, and that has none itself
+pub trial_of : (w : Held) (before : Soft) → w.kept ≡ before ∷ [] → stacks w.now.soft ≡ [] → stacks before ≡ [] → IsOnTrial w
+trial_of w before marked none was_none =
+    let same = kept_soft-is w before marked in
+    record {
+      marked_once = marked ∙ ap (λ (soft : Soft). soft ∷ []) (sym same);
+      stackless = none;
+      was_stackless = ap stacks same ∙ was_none;
+    }
+
+-- a load goes on: its mark is the same
+pub trial_still : (old new : Held) → IsOnTrial old → new.kept ≡ old.kept → stacks new.now.soft ≡ [] → IsOnTrial new
+trial_still old new trial same none = trial_of new (kept_soft old) (same ∙ trial.marked_once) none trial.was_stackless
+
+pub kept_soft-still : (old new : Held) → IsOnTrial old → new.kept ≡ old.kept → kept_soft new ≡ kept_soft old
+kept_soft-still old new trial same = kept_soft-is new (kept_soft old) (same ∙ trial.marked_once)
+
+-- ---- a load whose image is not placed
+
+-- what the call promises unless memory ran out
+pub promised : (fault : PlaceFault) (fact : Type 0) → fault ≢ place.OutOfMemory → UnlessMemory (Err fault) fact → fact
+promised (place.Refused refusal) fact other holds = holds
+promised place.Units fact other holds = holds
+promised place.Full fact other holds = holds
+promised place.OutOfMemory fact other holds = absurd (other refl)
+
+answered : (fault : PlaceFault) (answer : Result ℕ PlaceFault) → fault ≢ place.OutOfMemory → Gives (Err fault) answer → answer ≡ Err fault
+answered (place.Refused refusal) answer other gives = gives
+answered place.Units answer other gives = gives
+answered place.Full answer other gives = gives
+answered place.OutOfMemory answer other gives = absurd (other refl)
+
+pub not_loaded : (fault : PlaceFault) (loading : Loading) (file : List ℕ) (w after : State) → fault ≢ place.OutOfMemory → Gives (Err fault) (place_answer file w) → UnlessMemory (Err fault) (after ≡ placed file 0 w)
+    → loading ≡ record { note = fault_note fault; status = fault_status fault } → loaded file w ≡ came_of loading after
+not_loaded fault loading file w after other answer now told =
+    let is_placed : after ≡ placed file 0 w = promised fault (after ≡ placed file 0 w) other now in
+    ap (λ (answer : Result ℕ PlaceFault). load_by answer file w) (answered fault (place_answer file w) other answer) ∙ rw (told, is_placed) refl
+
+-- ---- a load whose image is placed
+
+-- the entry is called where the image has it, and what the mark keeps is put back where that fails
+pub entered_by : (image entry there : ℕ) (old made after : Held) (outcome : Outcome) (result : Result Loading OutOfMemory) → IsOnTrial old → made.kept ≡ old.kept
+    → entry_in image old.now.soft ≡ Some there → entry_in image old.now.soft ≡ Some entry → entry_made image there old.now ≡ (outcome, made.now)
+    → IfOk result (λ loading. entered image (kept_soft made) (kept_or_undone old.now.soft (outcome, made.now)) ≡ came_of loading after.now)
+    → IfOk result (λ loading. entered image (kept_soft old) (entry_called image entry old.now) ≡ came_of loading after.now)
+entered_by image entry there old made after outcome (Ok loading) trial same found is call done =
+    let here : there ≡ entry = cc in
+    let called : entry_made image entry old.now ≡ (outcome, made.now) = subst (λ (at : ℕ). entry_made image at old.now ≡ (outcome, made.now)) here call in
+    ap (λ (called : Outcome × State). entered image (kept_soft old) (kept_or_undone old.now.soft called)) called
+    ∙ ap (λ (soft : Soft). entered image soft (kept_or_undone old.now.soft (outcome, made.now))) (sym (kept_soft-still old made trial same))
+    ∙ done
+entered_by image entry there old made after outcome (Err error) trial same found is call done = tt
+
+-- an image is placed behind a mark, and entered
+pub loaded_by : (file : List ℕ) (image : ℕ) (old begun laid_in after : Held) (result : Result Loading OutOfMemory) → old.kept ≡ [] → begun ≡ marked old → laid_in.kept ≡ begun.kept
+    → place_answer file begun.now ≡ Ok image → laid_in.now ≡ placed file 0 begun.now
+    → IfOk result (λ loading. entered image (kept_soft laid_in) (entry_called image (begun.now.soft.next_image + entry_of file) laid_in.now) ≡ came_of loading after.now)
+    → IfOk result (λ loading. loaded file old.now ≡ came_of loading after.now)
+loaded_by file image old begun laid_in after (Ok loading) unmarked mark same answer now done =
+    let begins : begun.now ≡ old.now = ap (λ (w : Held). w.now) mark in
+    let keeps : laid_in.kept ≡ old.now.soft ∷ [] = same ∙ ap (λ (w : Held). w.kept) mark ∙ ap (λ (kept : List Soft). old.now.soft ∷ kept) unmarked in
+    let soft : kept_soft laid_in ≡ begun.now.soft = kept_soft-is laid_in old.now.soft keeps ∙ ap (λ (w : State). w.soft) (sym begins) in
+    ap (loaded file) (sym begins)
+    ∙ ap (λ (told : Result ℕ PlaceFault). load_by told file begun.now) answer
+    ∙ ap (λ (w : State). entered image begun.now.soft (entry_called image (begun.now.soft.next_image + entry_of file) w)) (sym now)
+    ∙ ap (λ (before : Soft). entered image before (entry_called image (begun.now.soft.next_image + entry_of file) laid_in.now)) (sym soft)
+    ∙ done
+loaded_by file image old begun laid_in after (Err error) unmarked mark same answer now done = tt
