@@ -27,7 +27,7 @@ pub enum Known {
 
 /// The name of a protocol (UEFI 2.8, appendix A: EFI_GUID). A contract sees its sixteen bytes in
 /// the order in which the text form writes them.
-#[derive(Clone, Copy, Debug, PartialEq, Eq)]
+#[derive(Clone, Copy, Debug, PartialEq, Eq, PartialOrd, Ord)]
 pub struct Guid {
     uuid: Uuid,
 }

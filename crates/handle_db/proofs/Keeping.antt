@@ -3,7 +3,7 @@ use Rattle.std.proofs.Common.{◌≡◌, ◌<◌, ◌≤◌, ℕ, suc, ◌+◌, 
 use Rattle.std.specs.List.{list_any, list_all}
 use Rattle.std.proofs.lemmas.List.{length-map}
 use Rattle.std.proofs.lemmas.List.Folds.{list_any-append, list_all-append}
-use Rattle.std.proofs.lemmas.Bool.{and_parts, and_from, leb-true, le-leb, lt-ltb, leb-false, lt-leb, eqb-true, not-true, both_ways, cases_Bool}
+use Rattle.std.proofs.lemmas.Bool.{and_parts, and_from, leb-true, le-leb, lt-ltb, leb-false, eqb-true, not-true, both_ways, cases_Bool}
 use Rattle.std.proofs.lemmas.Slice.Eq.{bytes_eq-Decides}
 use Rattle.handle_db.specs.Database.{Database, IsSound, differ, has, has_any, interfaces_in, interfaces_of, is_below, is_guid, is_handle, is_kept, is_live, most_interfaces, number_end, rise_from, unless}
 use Rattle.handle_db.specs.Installing.{InstallingKeeps, appended, install_answer, installed, is_full, new_entry, with_interface}
@@ -143,8 +143,8 @@ pub room_for_handle : (guid : List ℕ) (db : Database) → is_ok (install_answe
 room_for_handle guid db ok = (first_passed (is_full db) Full [] db.next ok).0
 
 -- and where there is room it is not refused
-pub accepted_new : (guid : List ℕ) (db : Database) → length db.handles < db.limit → db.next < number_end → is_ok (install_answer None guid db) ≡ true
-accepted_new guid db few low = rw (lt-leb db.limit (length db.handles) few, lt-leb number_end db.next low) refl
+pub accepted_new : (guid : List ℕ) (db : Database) → is_full db ≡ false → is_ok (install_answer None guid db) ≡ true
+accepted_new guid db room = rw room refl
 
 pub room_for_interface : (handle : ℕ) (guid : List ℕ) (db : Database) → is_ok (install_answer (Some handle) guid db) ≡ true → HasRoom (interfaces_of handle db) guid
 room_for_interface handle guid db ok =

@@ -54,6 +54,13 @@ abbrev pub handles_with : Option (List ℕ) → Database → List ℕ
 handles_with None db = numbers db.handles
 handles_with (Some guid) db = numbers (filter (has_guid guid) db.handles)
 
+-- the interface of a protocol, with its owner, of the least handle that has it
+abbrev pub interface_in : List ℕ → Option Entry → Option (ℕ × ℕ)
+interface_in guid found = option_map (λ (listed : Interface). (listed.interface, listed.owner)) (find (is_guid guid) (interfaces_in found))
+
+abbrev pub first_with : List ℕ → Database → Option (ℕ × ℕ)
+first_with guid db = interface_in guid (find (has_guid guid) db.handles)
+
 -- a handle's protocols in order of installation, each with its interface and the owner of it
 abbrev pub protocols_of : ℕ → Database → List (List ℕ × ℕ × ℕ)
 protocols_of handle db =

@@ -1,15 +1,15 @@
 ghost use Rattle.std.specs.Prelude.{◌≡◌, ◌≤◌, ◌<◌, [], true, IfOk, IfErr, OnOk, OnErr, None, Some, Ok, Err, filter, length, remove, slice_index_or, slice_set};
 ghost use Rattle.std.specs.List.{list_all};
-ghost use Rattle.handle_db.specs.Database.{Gives, IsSound, handles_with, has_any, interface_of, is_live, most_interfaces, protocols_of};
-ghost use Rattle.handle_db.specs.Installing.{appended, install_answer, installed};
+ghost use Rattle.handle_db.specs.Database.{Gives, IsSound, first_with, handles_with, has_any, interface_of, interfaces_of, is_live, most_interfaces, protocols_of};
+ghost use Rattle.handle_db.specs.Installing.{appended, install_answer, installed, is_full};
 ghost use Rattle.handle_db.specs.Removing.{remove_answer, removed};
 ghost use Rattle.handle_db.specs.Places.{IsPlaceOf, removed_at};
 ghost use Rattle.handle_db.specs.declared.entry.Entry.{Entry as EntryValue};
 
 use crate::entry::{Entry, Interface};
 use crate::places::{
-    all_handles, copies_of, entry_of, handles_that_have, has_guid, interface_in, interface_place,
-    place_of, protocols_in,
+    all_handles, copies_of, count_that_have, entry_of, first_that_has, handles_that_have, has_guid,
+    interface_in, interface_place, place_of, protocols_in,
 };
 use crate::refusal::{DbRefusal, Removed};
 use fw_types::{Guid, Handle, OutOfMemory, Rows};
@@ -23,8 +23,8 @@ const MOST_INTERFACES: usize = 64;
 const NUMBER_END: u64 = 1 << 62;
 
 /// The handles that are live, by rising number, each with its interfaces in order of installation
-/// (UEFI 2.8, 'Protocol Handler Services'). New handles get rising numbers from 1, and a number is not
-/// used again.
+/// (UEFI 2.8, 7.3: Protocol Handler Services). New handles get rising numbers from 1, and a number is
+/// not used again.
 #[derive(Drop)]
 pub struct Db {
     alloc: Global,
@@ -66,8 +66,8 @@ impl Db {
     }
 
     /// Installs an interface of a protocol on a handle, behind the interfaces that it has, or on a new
-    /// handle where none is named, and answers the handle. `interface` is an address in guest memory
-    /// and may be 0; `owner` is the image that installs it.
+    /// handle where none is named, and answers the handle (UEFI 2.8, 7.3: InstallProtocolInterface).
+    /// `interface` is an address in guest memory and may be 0; `owner` is the image that installs it.
     ///
     /// # Errors
     ///
@@ -97,8 +97,8 @@ impl Db {
         }
     }
 
-    /// Removes a handle's interface of a protocol, and the handle with it where it was the last. Takes
-    /// no memory.
+    /// Removes a handle's interface of a protocol, and the handle with it where it was the last, and
+    /// answers what went (UEFI 2.8, 7.3: UninstallProtocolInterface). Takes no memory.
     ///
     /// # Errors
     ///
@@ -127,15 +127,16 @@ impl Db {
         })
     }
 
-    /// Whether a number is that of a live handle. Takes no memory.
+    /// Whether a number is that of a live handle, which 0 never is. Takes no memory.
     pub fn is_live(&self, handle: u64) -> bool
         ensures { result ≡ is_live handle self.now }
     {
         entry_of(self.handles.as_slice(), handle).is_some()
     }
 
-    /// The address and the owner of a handle's interface of a protocol; `None` exactly where the handle
-    /// is not live or does not have the protocol. Takes no memory.
+    /// The address in guest memory and the owner of a handle's interface of a protocol (UEFI 2.8, 7.3:
+    /// HandleProtocol); `None` exactly where the handle is not live or does not have the protocol. Takes no
+    /// memory.
     pub fn interface(&self, handle: Handle, guid: Guid) -> Option<(u64, Handle)>
         ensures { result ≡ interface_of handle guid self.now }
     {
@@ -144,12 +145,13 @@ impl Db {
         Some((found.interface, found.owner))
     }
 
-    #[tactic(auto, using(crate::proofs::Changes::few_numbers))]
-    /// The live handles that have a protocol, or all where none is named, by rising number.
+    /// The live handles that have a protocol, or all where none is named, by rising number (UEFI 2.8, 7.3:
+    /// LocateHandle).
     ///
     /// # Errors
     ///
     /// `OutOfMemory` where there is no memory for the list.
+    #[tactic(auto, using(crate::proofs::Changes::few_numbers))]
     pub fn handles_with(&self, guid: Option<Guid>) -> Result<Vec<Handle>, OutOfMemory>
         ensures handles { IfOk result (λ handles. handles.items ≡ handles_with guid self.now) }
         ensures few { IfOk result (λ handles. length handles.items ≤ self.now.limit) }
@@ -160,8 +162,49 @@ impl Db {
         }
     }
 
-    /// The protocols of a handle in order of installation, each with its interface's address and owner.
-    /// None for a handle that is not live, and at most 64.
+    /// How many handles `handles_with` gives. Takes no memory.
+    pub fn count_with(&self, guid: Option<Guid>) -> u32
+        ensures { result ≡ length (handles_with guid self.now) }
+    {
+        // the limit's range is told by reading it
+        let _most = self.limit;
+        match guid {
+            Some(guid) => count_that_have(self.handles.as_slice(), guid) as u32,
+            None => self.handles.len() as u32,
+        }
+    }
+
+    /// The address in guest memory and the owner of the interface of a protocol on the least handle that
+    /// has it (UEFI 2.8, 7.3: LocateProtocol); `None` exactly where no handle has it. Takes no memory.
+    pub fn first_with(&self, guid: Guid) -> Option<(u64, Handle)>
+        ensures { result ≡ first_with guid self.now }
+    {
+        let entry = first_that_has(self.handles.as_slice(), guid)?;
+        let found = interface_in(entry.interfaces.as_slice(), guid)?;
+        Some((found.interface, found.owner))
+    }
+
+    /// How many interfaces a handle has, 0 where it is not live and 64 at most. Takes no memory.
+    pub fn interface_count(&self, handle: Handle) -> usize
+        ensures { result ≡ length (interfaces_of handle self.now) }
+    {
+        match entry_of(self.handles.as_slice(), handle.get()) {
+            Some(entry) => entry.interfaces.as_slice().len(),
+            None => 0,
+        }
+    }
+
+    /// Whether there is no room for a new handle: as many handles are live as may be, or the next handle
+    /// number is 2^62. Takes no memory.
+    pub fn is_full(&self) -> bool
+        ensures { result ≡ is_full self.now }
+    {
+        self.handles.len() >= self.limit as usize || self.next.get() >= NUMBER_END
+    }
+
+    /// The protocols of a handle in order of installation, each with its interface's address in guest
+    /// memory and its owner (UEFI 2.8, 7.3: ProtocolsPerHandle): an empty list for a handle that is not
+    /// live, and at most 64.
     ///
     /// # Errors
     ///
@@ -194,7 +237,7 @@ impl Db {
     }
 
     /// What holds of every database: handle numbers rise and stay below the next one, each handle has
-    /// an interface and no protocol twice, and the limits are kept.
+    /// an interface and no protocol twice, and the limits are kept. Does nothing.
     pub fn soundness(&self)
         ensures { IsSound self.now }
     {
@@ -206,7 +249,7 @@ impl Db {
         ensures ok { OnOk result (self.new ≡ installed None interface self.old) }
         ensures err { OnErr result (self.new ≡ self.old) }
     {
-        if self.handles.len() >= self.limit as usize || self.next.get() >= NUMBER_END {
+        if self.is_full() {
             return Err(DbRefusal::Full);
         }
         let handle = self.next;

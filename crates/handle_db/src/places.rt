@@ -1,4 +1,4 @@
-ghost use Rattle.std.specs.Prelude.{◌≡◌, ◌<◌, find, map, filter, false, true, is_some, length, option_copied, IfSome, IfNone, IfOk};
+ghost use Rattle.std.specs.Prelude.{◌≡◌, ◌<◌, ◌≤◌, find, map, filter, false, true, is_some, length, option_copied, IfSome, IfNone, IfOk};
 ghost use Rattle.std.specs.List.{list_any, position};
 ghost use Rattle.handle_db.specs.Database.{has_guid as has_protocol, is_guid, is_handle, numbers, rise_from};
 ghost use Rattle.handle_db.specs.Places.{IsPlaceOf};
@@ -73,6 +73,29 @@ pub fn handles_that_have(
             .map(|entry| entry.handle)
             .collect(alloc)?,
     )
+}
+
+/// How many handles have a protocol.
+pub fn count_that_have(entries: &[Entry], guid: Guid) -> usize
+    ensures value { result ≡ length (numbers (filter (has_protocol guid) entries.now)) }
+    ensures few { result ≤ length entries.now }
+{
+    let mut count = 0;
+    for entry in entries {
+        if has_guid(entry.interfaces.as_slice(), guid) {
+            count += 1;
+        }
+    }
+    count
+}
+
+/// The first handle that has a protocol.
+pub fn first_that_has(entries: &[Entry], guid: Guid) -> Option<&Entry>
+    ensures { option_copied result ≡ find (has_protocol guid) entries.now }
+{
+    entries
+        .iter()
+        .find(|entry| has_guid(entry.interfaces.as_slice(), guid))
 }
 
 /// A handle's protocols, each with its interface and the owner of it.

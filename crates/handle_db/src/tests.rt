@@ -92,6 +92,14 @@ fn looking(rt: HostRuntime) -> Result<(), Fail> {
     let odd = copy.handles_with(Some(guid(1)))?;
     assert_eq!(rt; odd.as_slice(), [handle(&rt, 1), handle(&rt, 3)].as_slice());
     assert_eq!(rt; copy.handles_with(Some(guid(8)))?.len(), 0);
+    // counted and found without a list
+    assert_eq!(rt; (db.count_with(None), copy.count_with(None)), (3, 4));
+    assert_eq!(rt;
+        (db.count_with(Some(guid(1))), copy.count_with(Some(guid(1)))),
+        (1, 2)
+    );
+    assert_eq!(rt; copy.first_with(guid(0)), Some((2, owner)));
+    assert_eq!(rt; copy.first_with(guid(8)), None);
     // in order of installation
     let protocols = copy.protocols_of(owner)?;
     let wanted = [
@@ -101,6 +109,13 @@ fn looking(rt: HostRuntime) -> Result<(), Fail> {
     ];
     assert_eq!(rt; protocols.as_slice(), wanted.as_slice());
     assert_eq!(rt; copy.protocols_of(handle(&rt, 9))?.len(), 0);
+    assert_eq!(rt;
+        (
+            copy.interface_count(owner),
+            copy.interface_count(handle(&rt, 9))
+        ),
+        (3, 0)
+    );
     assert_eq!(rt;
         copy.interface(owner, guid(3)),
         Some((0x30, Handle::firmware()))
@@ -118,7 +133,10 @@ fn limits(rt: HostRuntime) -> Result<(), Fail> {
         db.install(None, guid(0), 0, Handle::firmware())?;
     }
     let one_more = db.install(None, guid(0), 0, Handle::firmware());
-    assert_eq!(rt; one_more.err(), Some(DbRefusal::Full));
+    assert_eq!(rt;
+        (one_more.err(), db.is_full()),
+        (Some(DbRefusal::Full), true)
+    );
     let last = handle(&rt, 4096);
     for number in 1..64 {
         db.install(Some(last), guid(number), 0, Handle::firmware())?;
@@ -131,6 +149,7 @@ fn limits(rt: HostRuntime) -> Result<(), Fail> {
     assert_eq!(rt; db.protocols_of(last)?.len(), 64);
     // a handle that goes makes room for a new one
     db.remove(Handle::firmware(), guid(0))?;
+    assert!(rt; !db.is_full());
     let new = db.install(None, guid(0), 0, Handle::firmware())?;
     assert_eq!(rt; new.get(), 4097);
     Ok(())

@@ -1,0 +1,7 @@
+pub mod OpenRecords
+pub mod Verdicts
+pub mod Adding
+pub mod Leaving
+pub mod Managing
+pub mod Places
+pub mod Laws
