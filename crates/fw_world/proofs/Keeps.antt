@@ -1,6 +1,6 @@
 -- What holds of every soft part, as the calls on its fields leave it.
 use Rattle.std.proofs.Common.{◌≡◌, ◌<◌, ℕ, ◌+◌, Bool, true, false, ◌||◌, cond, length, nat_eq, nat_lt, List, [], ◌∷◌, find, Option, Some, None, sym, subst, refl, ap, ◌∙◌, arith}
-use Rattle.std.specs.Prelude.{Result, Ok, Err, OnOk, OnErr, is_ok, option_map, if◌then◌else◌}
+use Rattle.std.specs.Prelude.{Result, Ok, Err, OnOk, OnErr, is_ok, is_some, option_map, if◌then◌else◌}
 use Rattle.std.specs.List.{list_any}
 use Rattle.std.proofs.lemmas.Bool.{both_ways}
 use Rattle.std.proofs.lemmas.Bool.Decides.{nat_tests}
@@ -13,7 +13,12 @@ use Rattle.handle_db.specs.declared.entry.Entry.{Entry}
 use Rattle.handle_db.specs.declared.entry.Interface.{Interface}
 use Rattle.handle_db.specs.declared.refusal.DbRefusal.{DbRefusal}
 use Rattle.handle_db.specs.declared.refusal.Removed.{Removed}
-use Rattle.handle_db.specs.Database.{Database, Gives, interfaces_in, interfaces_of, is_guid, is_handle, is_live}
+use Rattle.handle_db.specs.Database.{Database, Gives, interface_of, interfaces_in, interfaces_of, is_guid, is_handle, is_live}
+use Rattle.fw_types.specs.Attr.{is_legal}
+use Rattle.open_records.specs.declared.fault.RecFault.{RecFault}
+use Rattle.open_records.specs.OpenRecords.{Table, records_of}
+use Rattle.open_records.specs.Adding.{Gives as GivesRecord, added, is_full as is_table_full}
+use Rattle.open_records.specs.Verdicts.{judge, may_enter}
 use Rattle.handle_db.specs.Installing.{install_answer, installed, is_full as is_database_full}
 use Rattle.handle_db.specs.Removing.{remove_answer, removed, told}
 use Rattle.world_model.specs.declared.fault.WorldFault.{WorldFault}
@@ -21,6 +26,7 @@ use Rattle.world_model.specs.declared.fault.WorldFault.TheVariants.{Full}
 use Rattle.world_model.specs.declared.image.LoadedImage.{LoadedImage}
 use Rattle.world_model.specs.World.{Soft}
 use Rattle.world_model.specs.Blocks.{taken}
+use Rattle.world_model.specs.Records.{is_none_or_live, records_removed}
 use Rattle.world_model.specs.Interfaces.{firmware}
 use Rattle.world_model.specs.Images.{block_size, image_added, image_dropped, image_of, is_image_full, next_step, without_image, without_loaded}
 use Rattle.world_model.specs.Thunks.{without_thunks}
@@ -29,6 +35,8 @@ use Rattle.world_model.proofs.KeepingBlocks.{writing}
 use Rattle.world_model.proofs.Loaded.{found_passes}
 use Rattle.world_model.proofs.KeepingImages.{adding, dropping}
 use Rattle.world_model.proofs.KeepingInterfaces.{installing}
+use Rattle.world_model.proofs.KeepingRecords.{entering}
+use Rattle.world_model.proofs.Opened.{has_from}
 
 -- a database in which an interface was installed, or not
 pub kept_installed : (soft : Soft) (who : Option ℕ) (new : Interface) (result : Result ℕ DbRefusal) (after : Database) → IsKept soft → Gives result (install_answer who new.guid soft.database)
@@ -36,6 +44,18 @@ pub kept_installed : (soft : Soft) (who : Option ℕ) (new : Interface) (result 
 kept_installed soft who new (Ok handle) after kept gives ok err =
     subst (λ (db : Database). IsKept (record soft { database = db })) (sym ok) (installing soft who new kept (ap is_ok gives))
 kept_installed soft who new (Err refusal) after kept gives ok err = subst (λ (db : Database). IsKept (record soft { database = db })) (sym err) kept
+
+-- records with one more open, or not
+pub kept_entered : (soft : Soft) (handle : ℕ) (guid : List ℕ) (agent controller attr : ℕ) (result : Result Unit RecFault) (after : Table) → IsKept soft
+    → is_some (interface_of handle guid soft.database) ≡ true → is_live agent soft.database ≡ true → is_none_or_live controller soft.database ≡ true
+    → may_enter (judge (records_of soft.records.held handle guid) agent controller attr) ≡ true → is_legal attr ≡ true
+    → GivesRecord result (is_table_full handle guid agent controller attr soft.records) → OnOk result (after ≡ added handle guid agent controller attr soft.records) → OnErr result (after ≡ soft.records)
+    → IsKept (record soft { records = after })
+kept_entered soft handle guid agent controller attr (Ok done) after kept there live none enters legal gives ok err =
+    subst (λ (table : Table). IsKept (record soft { records = table })) (sym ok)
+    (entering soft handle guid agent controller attr kept (has_from handle guid soft.database there) live none enters legal gives)
+kept_entered soft handle guid agent controller attr (Err refusal) after kept there live none enters legal gives ok err =
+    subst (λ (table : Table). IsKept (record soft { records = table })) (sym err) kept
 
 -- segments after a write, whether it was refused or not
 pub kept_written : (soft : Soft) (at n value : ℕ) (result : Result Unit MemRefusal) (after : List Segment) → IsKept soft → GivesWrite result (write_answer soft.memory at n)
@@ -123,9 +143,9 @@ db_dropped soft number one (Err refusal) after kept found is ok =
 
 -- without an image that is found
 pub dropped_is : (soft : Soft) (number : ℕ) (one : LoadedImage) → image_of number soft.images ≡ Some one
-    → image_dropped number soft ≡ record soft { memory = unmapped (unmapped soft.memory one.base) one.block; database = removed one.handle (known_guid LoadedImageProtocol) soft.database; images = without_image one.handle soft.images; thunks = without_thunks (beginning_at soft.memory one.base) soft.thunks }
+    → image_dropped number soft ≡ record soft { memory = unmapped (unmapped soft.memory one.base) one.block; database = removed one.handle (known_guid LoadedImageProtocol) soft.database; records = records_removed one.handle (known_guid LoadedImageProtocol) (removed one.handle (known_guid LoadedImageProtocol) soft.database) soft.records; images = without_image one.handle soft.images; thunks = without_thunks (beginning_at soft.memory one.base) soft.thunks }
 dropped_is soft number one found = ap (λ image. without_loaded image soft) found
 
 pub kept_dropped : (soft : Soft) (number : ℕ) (one : LoadedImage) → IsKept soft → image_of number soft.images ≡ Some one
-    → IsKept (record soft { memory = unmapped (unmapped soft.memory one.base) one.block; database = removed one.handle (known_guid LoadedImageProtocol) soft.database; images = without_image one.handle soft.images; thunks = without_thunks (beginning_at soft.memory one.base) soft.thunks })
+    → IsKept (record soft { memory = unmapped (unmapped soft.memory one.base) one.block; database = removed one.handle (known_guid LoadedImageProtocol) soft.database; records = records_removed one.handle (known_guid LoadedImageProtocol) (removed one.handle (known_guid LoadedImageProtocol) soft.database) soft.records; images = without_image one.handle soft.images; thunks = without_thunks (beginning_at soft.memory one.base) soft.thunks })
 kept_dropped soft number one kept found = subst IsKept (dropped_is soft number one found) (dropping soft number kept)

@@ -2,6 +2,8 @@
 use Rattle.std.specs.Prelude.{◌≡◌, Result, Ok, Err}
 use Rattle.handle_db.specs.declared.refusal.DbRefusal.{DbRefusal}
 use Rattle.handle_db.specs.declared.refusal.DbRefusal.TheVariants as refusal
+use Rattle.open_records.specs.declared.fault.RecFault.{RecFault}
+use Rattle.open_records.specs.declared.fault.RecFault.TheVariants as rec_fault
 use Rattle.world_model.specs.declared.fault.WorldFault.{WorldFault}
 use Rattle.world_model.specs.declared.fault.WorldFault.TheVariants.{Full, NotThere, OutOfMemory}
 
@@ -20,3 +22,9 @@ AsBeforeRefusal (Err refusal.Already) old new = new ≡ old
 AsBeforeRefusal (Err refusal.Full) old new = new ≡ old
 AsBeforeRefusal (Err refusal.NotThere) old new = new ≡ old
 AsBeforeRefusal (Err refusal.OutOfMemory) old new = Unit {0}
+
+-- The same of a record that is not entered.
+abbrev pub AsBeforeFull : {T W : Type 0} → Result T RecFault → W → W → Type 0
+AsBeforeFull (Ok value) old new = Unit {0}
+AsBeforeFull (Err rec_fault.Full) old new = new ≡ old
+AsBeforeFull (Err rec_fault.OutOfMemory) old new = Unit {0}

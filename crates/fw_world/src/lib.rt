@@ -1,5 +1,6 @@
-//! The one state of the firmware, the world: what drivers see of memory, the handle database, the
-//! images that are loaded and the thunks into them, and beside them the units and the events of the command at hand.
+//! The one state of the firmware, the world: what drivers see of memory, the handle database, the open
+//! records, the images that are loaded and the thunks into them, and beside them the units and the events
+//! of the command at hand.
 //!
 //! A contract sees a `World` as the record `Held` of `world_model`: the state now, and the soft parts
 //! that its open marks keep. Each call that changes it says by its clause `now` which single change of
@@ -11,6 +12,7 @@ mod database;
 mod image_block;
 mod mapping;
 mod mark;
+mod opens;
 mod soft_part;
 mod stack;
 mod tables;
@@ -23,4 +25,8 @@ pub use world::World;
 pub use world_model::{LoadedImage, WorldFault};
 
 #[cfg(test)]
+mod record_tests;
+#[cfg(test)]
 mod tests;
+#[cfg(test)]
+mod undo_tests;

@@ -1,7 +1,11 @@
 ghost use Rattle.std.specs.Prelude.{◌≡◌, ◌^◌, ◌<◌, ◌≤◌, ◌||◌, true, false, IfOk, OnErr, OnOk, Some, is_some, length, option_copied, replicate};
 ghost use Rattle.guest_memory.specs.Segment.{is_block};
 ghost use Rattle.guest_memory.specs.GuestMemory.{bytes_of, is_readable, is_writable_range, put_bytes};
-ghost use Rattle.handle_db.specs.Database.{Gives as GivesDb};
+ghost use Rattle.handle_db.specs.Database.{Gives as GivesDb, interface_of, is_live};
+ghost use Rattle.open_records.specs.OpenRecords.{records_of};
+ghost use Rattle.open_records.specs.Adding.{Gives as GivesRecord, is_full as is_table_full};
+ghost use Rattle.open_records.specs.Verdicts.{judge, may_enter};
+ghost use Rattle.world_model.specs.Records.{all_left, child_left, gone, is_none_or_live, record_entered, records_left, weak_dropped};
 ghost use Rattle.handle_db.specs.Installing.{is_full as is_database_full};
 ghost use Rattle.world_model.specs.declared.addresses.TheConstants.{IMAGE_END as last_image, MOST_LEVELS as most_levels, MOST_LISTED as most_listed};
 ghost use Rattle.world_model.specs.World.{with_memory, with_tpl};
@@ -18,31 +22,35 @@ ghost use Rattle.fw_world.specs.Answers.{AsBefore};
 use crate::database::{new_handle, opening};
 use crate::image_block::{ImageInfo, block_bytes};
 use crate::mapping::{map_free, map_image};
+use crate::opens::{ANY_BIT, CHILD_BIT, WEAK_BITS, drop_records};
 use crate::stack::{frame, list_base, map_list, stack_base, stack_bytes};
 use crate::tables::tables;
 use crate::thunks::{drop_from_segment, thunk_address, thunk_with};
 use ebc_machine::Cpu;
-use fw_types::{Guid, Handle, Known, OutOfMemory};
+use fw_types::{Attr, Guid, Handle, Known, OutOfMemory};
 use guest_memory::{GuestMem, MemRefusal, Memory, SegKind};
 use handle_db::{Db, DbRefusal};
+use open_records::{RecFault, Records};
 use std::alloc::Global;
 use std::marker::Model;
 use world_model::addresses::{
-    BLOCK_END, FIRST_BLOCK, FIRST_IMAGE, IMAGE_END, IMAGE_STEP, MOST_THUNKS, TPL_APPLICATION,
+    BLOCK_END, FIRST_BLOCK, FIRST_IMAGE, IMAGE_END, IMAGE_STEP, MOST_RECORDS, MOST_THUNKS,
+    TPL_APPLICATION,
 };
 use world_model::{LoadedImage, Thunk, WorldFault};
 
 /// The size of a loaded image block.
 const BLOCK_SIZE: u64 = 96;
 
-/// What an undo puts back: the memory of drivers, the handle database, the images that are loaded, the
-/// live thunks, the task priority level, the addresses of the next image and the next block, and the
-/// number of the next thunk.
+/// What an undo puts back: the memory of drivers, the handle database, the open records, the images that
+/// are loaded, the live thunks, the task priority level, the addresses of the next image and the next
+/// block, and the number of the next thunk.
 #[derive(Drop)]
 pub struct SoftPart {
     alloc: Global,
     memory: Memory,
     database: Db,
+    records: Records,
     images: Vec<LoadedImage>,
     thunks: Vec<Thunk>,
     tpl: u8,
@@ -60,6 +68,7 @@ impl Model for SoftPart {
     ghost view = { λ inside. record {
       memory = inside.memory;
       database = inside.database;
+      records = inside.records;
       images = inside.images.items;
       thunks = inside.thunks.items;
       tpl = inside.tpl;
@@ -71,6 +80,7 @@ impl Model for SoftPart {
     ghost invariant = { λ inside. IsKept (record {
       memory = inside.memory;
       database = inside.database;
+      records = inside.records;
       images = inside.images.items;
       thunks = inside.thunks.items;
       tpl = inside.tpl;
@@ -89,6 +99,7 @@ impl SoftPart {
             alloc,
             memory: tables(alloc)?,
             database: opening(alloc)?,
+            records: Records::new(alloc, MOST_RECORDS),
             images: Vec::new(alloc),
             thunks: Vec::new(alloc),
             tpl: TPL_APPLICATION,
@@ -106,6 +117,7 @@ impl SoftPart {
             alloc: self.alloc,
             memory: self.memory.copy()?,
             database: self.database.copy()?,
+            records: self.records.copy()?,
             images: Vec::from_slice(self.alloc, self.images.as_slice())?,
             thunks: Vec::from_slice(self.alloc, self.thunks.as_slice())?,
             tpl: self.tpl,
@@ -127,6 +139,13 @@ impl SoftPart {
         ensures { result.now ≡ self.now.database }
     {
         &self.database
+    }
+
+    /// The open records.
+    pub fn entries(&self) -> &Records
+        ensures { result.now ≡ self.now.records }
+    {
+        &self.records
     }
 
     /// The task priority level.
@@ -251,7 +270,7 @@ impl SoftPart {
         self.database.install(handle, guid, interface, owner)
     }
 
-    /// Uninstalls an interface that does not last as long as an image.
+    /// Uninstalls an interface that does not last as long as an image, with its records.
     pub fn uninstall(&mut self, handle: Handle, guid: Guid) -> Result<(), DbRefusal>
         requires { is_lasting handle guid self.old ≡ false }
         ensures answer { result ≡ uninstall_answer handle guid self.old }
@@ -259,7 +278,74 @@ impl SoftPart {
         ensures err { OnErr result (self.new ≡ self.old) }
     {
         self.database.remove(handle, guid)?;
+        drop_records(&mut self.records, &self.database, handle, guid);
         Ok(())
+    }
+
+    // ---- open records
+
+    /// Enters an open of an interface that is there, by a live agent, for none or for a live controller.
+    pub fn enter(
+        &mut self,
+        handle: Handle,
+        guid: Guid,
+        agent: u64,
+        controller: u64,
+        attr: Attr,
+    ) -> Result<(), RecFault>
+        requires there { is_some (interface_of handle guid self.old.database) ≡ true }
+        requires agent { is_live agent self.old.database ≡ true }
+        requires controller { is_none_or_live controller self.old.database ≡ true }
+        requires verdict { may_enter (judge (records_of self.old.records.held handle guid) agent controller attr) ≡ true }
+        ensures answer { GivesRecord result (is_table_full handle guid agent controller attr self.old.records) }
+        ensures ok { OnOk result (self.new ≡ record_entered handle guid agent controller attr self.old) }
+        ensures err { OnErr result (self.new ≡ self.old) }
+    {
+        // an attribute's bits are legal, which its contract tells of `bits` alone
+        let _ = attr.bits();
+        self.records.add(handle, guid, agent, controller, attr)
+    }
+
+    /// Takes out an agent's records for a controller on an interface, and answers how many they were.
+    pub fn leave(&mut self, handle: Handle, guid: Guid, agent: u64, controller: u64) -> u32
+        ensures number { result ≡ gone self.old self.new }
+        ensures now { self.new ≡ records_left handle guid agent controller self.old }
+    {
+        let before = self.records.len();
+        self.records
+            .drop_from(handle, guid, Some(agent), Some(controller), ANY_BIT);
+        before.saturating_sub(self.records.len())
+    }
+
+    /// Takes out an agent's records on a handle, and answers how many they were.
+    pub fn leave_all(&mut self, handle: Handle, agent: u64) -> u32
+        ensures number { result ≡ gone self.old self.new }
+        ensures now { self.new ≡ all_left handle agent self.old }
+    {
+        let before = self.records.len();
+        self.records.drop_on(handle, Some(agent), None, ANY_BIT);
+        before.saturating_sub(self.records.len())
+    }
+
+    /// Takes out an agent's records for a child on a handle, and answers how many they were.
+    pub fn leave_child(&mut self, handle: Handle, agent: u64, child: Handle) -> u32
+        ensures number { result ≡ gone self.old self.new }
+        ensures now { self.new ≡ child_left handle agent child self.old }
+    {
+        let before = self.records.len();
+        self.records
+            .drop_on(handle, Some(agent), Some(child.get()), CHILD_BIT);
+        before.saturating_sub(self.records.len())
+    }
+
+    /// Takes out the records on an interface that keep nobody out, and answers how many they were.
+    pub fn drop_weak(&mut self, handle: Handle, guid: Guid) -> u32
+        ensures number { result ≡ gone self.old self.new }
+        ensures now { self.new ≡ weak_dropped handle guid self.old }
+    {
+        let before = self.records.len();
+        self.records.drop_from(handle, guid, None, None, WEAK_BITS);
+        before.saturating_sub(self.records.len())
     }
 
     // ---- images
@@ -329,7 +415,7 @@ impl SoftPart {
         Ok(Vec::from_slice(self.alloc, &block_bytes(&info))?)
     }
 
-    /// Takes out an image with its loaded image block, its interface and its thunks.
+    /// Takes out an image with its loaded image block, its interface with the records, and its thunks.
     pub fn drop_image(&mut self, handle: Handle) -> Result<(), WorldFault>
         ensures answer { result ≡ drop_answer handle self.old }
         ensures ok { OnOk result (self.new ≡ image_dropped handle self.old) }
@@ -344,6 +430,7 @@ impl SoftPart {
         let _ = self.memory.unmap(image.block);
         let guid = Guid::known(Known::LoadedImage);
         let _ = self.database.remove(image.handle, guid);
+        drop_records(&mut self.records, &self.database, image.handle, guid);
         drop_from(&mut self.images, image.handle);
         Ok(())
     }
@@ -353,6 +440,13 @@ impl SoftPart {
         ensures { result ≡ self.now.next_image }
     {
         self.next_image
+    }
+
+    /// The address of the next block.
+    pub fn next_block(&self) -> u64
+        ensures { result ≡ self.now.next_block }
+    {
+        self.next_block
     }
 
     /// The address of an image's entry point.

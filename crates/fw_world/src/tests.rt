@@ -2,7 +2,7 @@ ghost use Rattle.std.specs.Prelude.{◌≡◌, IfOk, OnOk, length};
 ghost use Rattle.world_model.specs.Marks.{stacks};
 
 use crate::{World, WorldFault};
-use fw_types::{Cause, EventKind, Guid, Handle, Known, OutOfMemory, Outcome, Status};
+use fw_types::{Cause, Event, EventKind, Guid, Handle, Known, OutOfMemory, Outcome, Status};
 use guest_memory::{GuestMem, MemRefusal, SegKind};
 use handle_db::DbRefusal;
 use std::alloc::AllocError;
@@ -11,7 +11,7 @@ use std::test::Fail;
 use world_model::laws::stacks_stand;
 
 /// `len` bytes, all the same.
-fn bytes_of(rt: &impl AllocGlobal, len: usize, byte: u8) -> Result<Vec<u8>, AllocError>
+pub(crate) fn bytes_of(rt: &impl AllocGlobal, len: usize, byte: u8) -> Result<Vec<u8>, AllocError>
     ensures { IfOk result (λ bytes. length bytes.items ≡ len) }
 {
     vec![in rt.alloc(); byte; len]
@@ -46,9 +46,9 @@ fn has_bytes(
     Ok(world.read(base.saturating_add(size as u64), 1).is_none())
 }
 
-/// All bytes of the opening state.
+/// All bytes of the system table in the opening state.
 #[test]
-fn opening_tables(rt: HostRuntime) -> Result<(), Fail> {
+fn opening_system_table(rt: HostRuntime) -> Result<(), Fail> {
     let world = World::new(rt.alloc())?;
     let system: [(usize, &[u8]); 6] = [
         (0, b"IBI SYST"),
@@ -61,6 +61,13 @@ fn opening_tables(rt: HostRuntime) -> Result<(), Fail> {
         (96, &[0, 0x10, 1]),
     ];
     assert!(rt; has_bytes(&rt, &world, 0x1_0000, 128, &system)?);
+    Ok(())
+}
+
+/// All bytes of the bus driver's binding.
+#[test]
+fn opening_binding(rt: HostRuntime) -> Result<(), Fail> {
+    let world = World::new(rt.alloc())?;
     let binding: [(usize, &[u8]); 6] = [
         // Supported, Start and Stop at 0x22000, 0x22008 and 0x22010
         (0, &[0, 0x20, 2]),
@@ -72,6 +79,13 @@ fn opening_tables(rt: HostRuntime) -> Result<(), Fail> {
         (40, &[2]),
     ];
     assert!(rt; has_bytes(&rt, &world, 0x1_3000, 48, &binding)?);
+    Ok(())
+}
+
+/// All bytes of the firmware's loaded image block.
+#[test]
+fn opening_image_block(rt: HostRuntime) -> Result<(), Fail> {
+    let world = World::new(rt.alloc())?;
     let firmware: [(usize, &[u8]); 4] = [
         (0, &[0, 0x10]),
         // the system table at 0x10000
@@ -130,12 +144,13 @@ fn opening_handles(rt: HostRuntime) -> Result<(), Fail> {
     Ok(())
 }
 
-/// Images of two subsystems: where they lie, and their loaded image blocks.
+/// The loaded image block of a driver of boot services.
 #[test]
-fn images(rt: HostRuntime) -> Result<(), Fail> {
+fn image_block(rt: HostRuntime) -> Result<(), Fail> {
     let mut world = World::new(rt.alloc())?;
-    let first = world.add_image(bytes_of(&rt, 0x1_0001, 0x11)?, 0x10, 11, 0)?;
-    let one: [(usize, &[u8]); 7] = [
+    let image = world.add_image(bytes_of(&rt, 0x1_0001, 0x11)?, 0x10, 11, 0)?;
+    assert_eq!(rt; image.get(), 3);
+    let block: [(usize, &[u8]); 7] = [
         (0, &[0, 0x10]),
         // ParentHandle, SystemTable
         (8, &[1]),
@@ -146,11 +161,25 @@ fn images(rt: HostRuntime) -> Result<(), Fail> {
         (80, &[3]),
         (84, &[4]),
     ];
-    assert!(rt; has_bytes(&rt, &world, 0x1_0000_0000, 96, &one)?);
-    let second = world.add_image(bytes_of(&rt, 0x1_0000, 0x22)?, 0xffff, 12, 3)?;
+    assert!(rt; has_bytes(&rt, &world, 0x1_0000_0000, 96, &block)?);
+    Ok(())
+}
+
+/// A world with two images: 0x10001 bytes of a driver of boot services, with its entry 0x10 behind their
+/// beginning, and 0x10000 of a runtime driver, from a device 3 and with the last byte as its entry.
+fn with_images(rt: &impl AllocGlobal) -> Result<(World, Handle, Handle), Fail> {
+    let mut world = World::new(rt.alloc())?;
+    let first = world.add_image(bytes_of(rt, 0x1_0001, 0x11)?, 0x10, 11, 0)?;
+    let second = world.add_image(bytes_of(rt, 0x1_0000, 0x22)?, 0xffff, 12, 3)?;
+    Ok((world, first, second))
+}
+
+/// The loaded image block of a runtime driver from a device.
+#[test]
+fn runtime_image_block(rt: HostRuntime) -> Result<(), Fail> {
+    let (world, first, second) = with_images(&rt)?;
     assert_eq!(rt; (first.get(), second.get()), (3, 4));
-    assert_eq!(rt; world.next_image(), 0x203_0000);
-    let two: [(usize, &[u8]); 8] = [
+    let block: [(usize, &[u8]); 8] = [
         (0, &[0, 0x10]),
         (8, &[1]),
         (16, &[0, 0, 1]),
@@ -161,7 +190,15 @@ fn images(rt: HostRuntime) -> Result<(), Fail> {
         (80, &[5]),
         (84, &[6]),
     ];
-    assert!(rt; has_bytes(&rt, &world, 0x1_0000_0060, 96, &two)?);
+    assert!(rt; has_bytes(&rt, &world, 0x1_0000_0060, 96, &block)?);
+    Ok(())
+}
+
+/// Where two images lie.
+#[test]
+fn images(rt: HostRuntime) -> Result<(), Fail> {
+    let (world, first, second) = with_images(&rt)?;
+    assert_eq!(rt; world.next_image(), 0x203_0000);
     assert_eq!(rt;
         (world.entry_of(3), world.entry_of(4)),
         (Some(0x200_0010), Some(0x202_ffff))
@@ -180,9 +217,9 @@ fn images(rt: HostRuntime) -> Result<(), Fail> {
     Ok(())
 }
 
-/// What goes with an image, and what stays.
+/// What of images is refused.
 #[test]
-fn dropped_image(rt: HostRuntime) -> Result<(), Fail> {
+fn image_refusals(rt: HostRuntime) -> Result<(), Fail> {
     let mut world = World::new(rt.alloc())?;
     let image = world.add_image(bytes_of(&rt, 0x40, 0x11)?, 0, 11, 0)?;
     // a loaded image block is not freed
@@ -196,6 +233,15 @@ fn dropped_image(rt: HostRuntime) -> Result<(), Fail> {
     );
     assert_eq!(rt; world.drop_image(image), Ok(()));
     assert_eq!(rt; world.drop_image(image), Err(WorldFault::NotThere));
+    Ok(())
+}
+
+/// What goes with an image, and what stays.
+#[test]
+fn dropped_image(rt: HostRuntime) -> Result<(), Fail> {
+    let mut world = World::new(rt.alloc())?;
+    let image = world.add_image(bytes_of(&rt, 0x40, 0x11)?, 0, 11, 0)?;
+    world.drop_image(image)?;
     assert_eq!(rt;
         (world.read(0x200_0000, 1), world.read(0x1_0000_0000, 1)),
         (None, None)
@@ -207,21 +253,23 @@ fn dropped_image(rt: HostRuntime) -> Result<(), Fail> {
     Ok(())
 }
 
-/// The addresses of blocks: what each takes is a multiple of 16, and none is used again.
+/// The sizes of blocks that are made behind a loaded image block of 96 bytes, and their addresses: what
+/// each takes is a multiple of 16.
+const SIZES: [(usize, u64); 6] = [
+    (24, 0x1_0000_0060),
+    (16, 0x1_0000_0080),
+    (0, 0x1_0000_0090),
+    (17, 0x1_0000_00a0),
+    (32, 0x1_0000_00c0),
+    (1, 0x1_0000_00e0),
+];
+
+/// The addresses of blocks.
 #[test]
-fn blocks(rt: HostRuntime) -> Result<(), Fail> {
+fn block_addresses(rt: HostRuntime) -> Result<(), Fail> {
     let mut world = World::new(rt.alloc())?;
     let _ = world.add_image(bytes_of(&rt, 0x40, 0)?, 0, 11, 0)?;
-    let sizes: [(usize, u64); 6] = [
-        // the loaded image block has the 96 bytes before it
-        (24, 0x1_0000_0060),
-        (16, 0x1_0000_0080),
-        (0, 0x1_0000_0090),
-        (17, 0x1_0000_00a0),
-        (32, 0x1_0000_00c0),
-        (1, 0x1_0000_00e0),
-    ];
-    for (size, at) in sizes {
+    for (size, at) in SIZES {
         assert_eq!(rt; world.allot(bytes_of(&rt, size, 0)?, SegKind::Pool), Ok(at));
     }
     // a block has just its bytes
@@ -229,6 +277,23 @@ fn blocks(rt: HostRuntime) -> Result<(), Fail> {
         (world.read(0x1_0000_0077, 1), world.read(0x1_0000_0078, 1)),
         (Some(0), None)
     );
+    Ok(())
+}
+
+/// A world with an image and blocks of these sizes.
+fn with_blocks(rt: &impl AllocGlobal) -> Result<World, Fail> {
+    let mut world = World::new(rt.alloc())?;
+    let _ = world.add_image(bytes_of(rt, 0x40, 0)?, 0, 11, 0)?;
+    for (size, _) in SIZES {
+        let _ = world.allot(bytes_of(rt, size, 0)?, SegKind::Pool)?;
+    }
+    Ok(world)
+}
+
+/// A block of the firmware is not written, and is freed as such a block alone.
+#[test]
+fn firmware_blocks(rt: HostRuntime) -> Result<(), Fail> {
+    let mut world = with_blocks(&rt)?;
     assert_eq!(rt;
         world.allot(bytes_of(&rt, 8, 7)?, SegKind::Firmware),
         Ok(0x1_0000_00f0)
@@ -239,6 +304,14 @@ fn blocks(rt: HostRuntime) -> Result<(), Fail> {
         Err(WorldFault::NotThere)
     );
     assert_eq!(rt; world.free(0x1_0000_00f0, SegKind::Firmware), Ok(()));
+    Ok(())
+}
+
+/// A block is freed once, at its first address, which is not used again.
+#[test]
+fn freed_blocks(rt: HostRuntime) -> Result<(), Fail> {
+    let mut world = with_blocks(&rt)?;
+    let _ = world.allot(bytes_of(&rt, 8, 7)?, SegKind::Firmware)?;
     assert_eq!(rt;
         world.free(0x1_0000_0061, SegKind::Pool),
         Err(WorldFault::NotThere)
@@ -279,10 +352,9 @@ fn limits(rt: HostRuntime) -> Result<(), Fail> {
     Ok(())
 }
 
-/// The limits of the handle database: 64 interfaces of one handle, and 4,096 live handles, of which the
-/// opening state has two. An image needs a new handle too.
+/// The most interfaces of one handle, which are 64.
 #[test]
-fn handle_limits(rt: HostRuntime) -> Result<(), Fail> {
+fn interface_limit(rt: HostRuntime) -> Result<(), Fail> {
     let mut world = World::new(rt.alloc())?;
     let firmware = Handle::firmware();
     let handle = world.install(None, numbered(0), 0, firmware)?;
@@ -296,14 +368,28 @@ fn handle_limits(rt: HostRuntime) -> Result<(), Fail> {
         world.install(Some(handle), numbered(64), 0, firmware),
         Err(DbRefusal::Full)
     );
-    let guid = Guid::known(Known::PciIo);
-    let mut last = handle;
-    for _ in 0..4093 {
+    Ok(())
+}
+
+/// A world with 4,096 live handles, of which the opening state has two, and the last of them.
+fn with_handles(rt: &impl AllocGlobal, guid: Guid) -> Result<(World, Handle), Fail> {
+    let mut world = World::new(rt.alloc())?;
+    let firmware = Handle::firmware();
+    let mut last = firmware;
+    for _ in 0..4094 {
         last = world.install(None, guid, 0, firmware)?;
     }
+    Ok((world, last))
+}
+
+/// The most handles that are live. An image needs a new handle too.
+#[test]
+fn handle_limit(rt: HostRuntime) -> Result<(), Fail> {
+    let guid = Guid::known(Known::PciIo);
+    let (mut world, last) = with_handles(&rt, guid)?;
     assert_eq!(rt; last.get(), 4096);
     assert_eq!(rt;
-        world.install(None, guid, 0, firmware),
+        world.install(None, guid, 0, Handle::firmware()),
         Err(DbRefusal::Full)
     );
     assert_eq!(rt;
@@ -317,9 +403,9 @@ fn handle_limits(rt: HostRuntime) -> Result<(), Fail> {
     Ok(())
 }
 
-/// A stack with its frame, and a list of children beside it.
+/// A stack with its frame.
 #[test]
-fn stacks(rt: HostRuntime) -> Result<(), Fail> {
+fn stack_frame(rt: HostRuntime) -> Result<(), Fail> {
     let mut world = World::new(rt.alloc())?;
     let slots = [1, 2, 3, 4, 5, 6, 7, 8, 9, 10, 11, 12, 13, 14, 15, 16];
     let cpu = world.push_stack(1, &slots, &[3, 0x0102_0304_0506_0708])?;
@@ -337,6 +423,14 @@ fn stacks(rt: HostRuntime) -> Result<(), Fail> {
         assert_eq!(rt; world.read(0x81_ff80 + 8 * i, 8), Some(i + 1));
     }
     assert_eq!(rt; world.read(0x82_0000, 1), None);
+    Ok(())
+}
+
+/// A list of children beside a stack. They go together.
+#[test]
+fn list_of_children(rt: HostRuntime) -> Result<(), Fail> {
+    let mut world = World::new(rt.alloc())?;
+    let _ = world.push_stack(1, &[0; 16], &[3, 0x0102_0304_0506_0708])?;
     let list: [(usize, &[u8]); 2] = [(0, &[3]), (8, &[8, 7, 6, 5, 4, 3, 2, 1])];
     assert!(rt; has_bytes(&rt, &world, 0xc2_0000, 16, &list)?);
     world.pop_stack(1)?;
@@ -395,19 +489,24 @@ fn caps(rt: HostRuntime) -> Result<(), Fail> {
     Ok(())
 }
 
-/// Events inside one another, which end in another order than they begin.
-#[test]
-fn events(rt: HostRuntime) -> Result<(), Fail> {
+/// Three events, of which the second and the third stand under the first. The first ends last, and the
+/// third does not end.
+fn three_events(rt: &impl AllocGlobal) -> Result<(Vec<Event>, [u64; 3]), Fail> {
     let mut world = World::new(rt.alloc())?;
     world.begin_command(64);
     let first = world.begin_event(0, EventKind::Entry, 3, 0, 0)?;
     let second = world.begin_event(first, EventKind::Entry, 4, 5, 6)?;
-    assert_eq!(rt; (first, second), (1, 2));
     world.end_event(second, Outcome::Trapped(Cause::Memory));
     let third = world.begin_event(first, EventKind::Entry, 7, 0, 0)?;
-    assert_eq!(rt; third, 3);
     world.end_event(first, Outcome::Value(Status::NOT_FOUND));
-    let events = world.take_events();
+    Ok((world.take_events(), [first, second, third]))
+}
+
+/// Events inside one another, which end in another order than they begin.
+#[test]
+fn events(rt: HostRuntime) -> Result<(), Fail> {
+    let (events, serials) = three_events(&rt)?;
+    assert_eq!(rt; serials, [1, 2, 3]);
     assert_eq!(rt; events.len(), 3);
     let told: [(u64, u64, u64, u64, u64, Outcome); 3] = [
         (1, 0, 3, 0, 0, Outcome::Value(Status::NOT_FOUND)),
@@ -425,6 +524,16 @@ fn events(rt: HostRuntime) -> Result<(), Fail> {
             (controller, extra, result)
         );
     }
+    Ok(())
+}
+
+/// Serial numbers begin at 1 again once the events are taken, and with a command.
+#[test]
+fn first_serials(rt: HostRuntime) -> Result<(), Fail> {
+    let mut world = World::new(rt.alloc())?;
+    world.begin_command(64);
+    assert_eq!(rt; world.begin_event(0, EventKind::Entry, 3, 0, 0), Ok(1));
+    assert_eq!(rt; world.take_events().len(), 1);
     assert_eq!(rt; world.begin_event(0, EventKind::Entry, 3, 0, 0), Ok(1));
     world.begin_command(64);
     assert_eq!(rt; world.begin_event(0, EventKind::Entry, 3, 0, 0), Ok(1));
@@ -432,7 +541,7 @@ fn events(rt: HostRuntime) -> Result<(), Fail> {
 }
 
 /// Makes a thunk where an image has the entry.
-fn thunk_into(world: &mut World, entry: u64) -> Result<Option<u64>, WorldFault>
+pub(crate) fn thunk_into(world: &mut World, entry: u64) -> Result<Option<u64>, WorldFault>
     ensures kept { OnOk result (world.new.kept ≡ world.old.kept) }
     ensures stacks { OnOk result (stacks world.new.now.soft ≡ stacks world.old.now.soft) }
 {
@@ -445,25 +554,45 @@ fn thunk_into(world: &mut World, entry: u64) -> Result<Option<u64>, WorldFault>
     }
 }
 
-/// Thunks of two images. One that is dropped takes its own along, and no others.
+/// Entries of thunks into two images of 64 bytes, and the thunks' addresses.
+const ENTRIES: [(u64, Option<u64>); 5] = [
+    // the last byte of the first image, and the one behind it
+    (0x200_003f, Some(0x40_0000)),
+    (0x200_0040, None),
+    // the first and the last byte of the second
+    (0x201_0000, Some(0x40_0010)),
+    (0x201_003f, Some(0x40_0020)),
+    // a second thunk of one entry
+    (0x200_003f, Some(0x40_0030)),
+];
+
+/// Which addresses are those of thunks.
 #[test]
-fn thunks(rt: HostRuntime) -> Result<(), Fail> {
+fn thunk_addresses(rt: HostRuntime) -> Result<(), Fail> {
     let mut world = World::new(rt.alloc())?;
-    let first = world.add_image(bytes_of(&rt, 0x40, 0x11)?, 0, 11, 0)?;
+    let _ = world.add_image(bytes_of(&rt, 0x40, 0x11)?, 0, 11, 0)?;
     let _ = world.add_image(bytes_of(&rt, 0x40, 0x22)?, 0, 11, 0)?;
-    let entries: [(u64, Option<u64>); 5] = [
-        // the last byte of the first image, and the one behind it
-        (0x200_003f, Some(0x40_0000)),
-        (0x200_0040, None),
-        // the first and the last byte of the second
-        (0x201_0000, Some(0x40_0010)),
-        (0x201_003f, Some(0x40_0020)),
-        // a second thunk of one entry
-        (0x200_003f, Some(0x40_0030)),
-    ];
-    for (entry, answer) in entries {
+    for (entry, answer) in ENTRIES {
         assert_eq!(rt; thunk_into(&mut world, entry)?, answer);
     }
+    Ok(())
+}
+
+/// A world with two images and these thunks, and the first image.
+fn with_thunks(rt: &impl AllocGlobal) -> Result<(World, Handle), Fail> {
+    let mut world = World::new(rt.alloc())?;
+    let first = world.add_image(bytes_of(rt, 0x40, 0x11)?, 0, 11, 0)?;
+    let _ = world.add_image(bytes_of(rt, 0x40, 0x22)?, 0, 11, 0)?;
+    for (entry, _) in ENTRIES {
+        let _ = thunk_into(&mut world, entry)?;
+    }
+    Ok((world, first))
+}
+
+/// Where thunks enter.
+#[test]
+fn live_thunks(rt: HostRuntime) -> Result<(), Fail> {
+    let (world, _) = with_thunks(&rt)?;
     let live: [(u64, Option<u64>); 7] = [
         (0x3f_fff0, None),
         (0x40_0000, Some(0x200_003f)),
@@ -476,6 +605,13 @@ fn thunks(rt: HostRuntime) -> Result<(), Fail> {
     for (at, entry) in live {
         assert_eq!(rt; world.thunk_at(at), entry);
     }
+    Ok(())
+}
+
+/// An image that is dropped takes its thunks along, and no others.
+#[test]
+fn dropped_thunks(rt: HostRuntime) -> Result<(), Fail> {
+    let (mut world, first) = with_thunks(&rt)?;
     assert_eq!(rt; world.drop_image(first), Ok(()));
     let left: [(u64, Option<u64>); 4] = [
         (0x40_0000, None),
@@ -491,39 +627,25 @@ fn thunks(rt: HostRuntime) -> Result<(), Fail> {
     Ok(())
 }
 
-/// A thunk that is undone gives its number back, and one that is committed does not.
-#[test]
-fn undone_thunks(rt: HostRuntime) -> Result<(), Fail> {
+/// A world in which all numbers of thunks are handed out, all into the first of two images, and that
+/// image.
+fn with_most_thunks(rt: &(impl AllocGlobal + Abort)) -> Result<(World, Handle), Fail> {
     let mut world = World::new(rt.alloc())?;
-    let _ = world.add_image(bytes_of(&rt, 0x40, 0)?, 0, 11, 0)?;
-    let outer = world.mark()?;
-    assert_eq!(rt; thunk_into(&mut world, 0x200_0001)?, Some(0x40_0000));
-    let inner = world.mark()?;
-    assert_eq!(rt; thunk_into(&mut world, 0x200_0002)?, Some(0x40_0010));
-    world.rollback(inner)?;
-    assert_eq!(rt;
-        (world.thunk_at(0x40_0000), world.thunk_at(0x40_0010)),
-        (Some(0x200_0001), None)
-    );
-    assert_eq!(rt; thunk_into(&mut world, 0x200_0003)?, Some(0x40_0010));
-    world.commit(outer);
-    assert_eq!(rt; world.thunk_at(0x40_0010), Some(0x200_0003));
-    assert_eq!(rt; thunk_into(&mut world, 0x200_0004)?, Some(0x40_0020));
-    Ok(())
-}
-
-/// The most numbers of thunks. Dropping an image gives none back.
-#[test]
-fn most_thunks(rt: HostRuntime) -> Result<(), Fail> {
-    let mut world = World::new(rt.alloc())?;
-    let first = world.add_image(bytes_of(&rt, 0x40, 0)?, 0, 11, 0)?;
-    let _ = world.add_image(bytes_of(&rt, 0x40, 0)?, 0, 11, 0)?;
+    let first = world.add_image(bytes_of(rt, 0x40, 0)?, 0, 11, 0)?;
+    let _ = world.add_image(bytes_of(rt, 0x40, 0)?, 0, 11, 0)?;
     for number in 0..65_536 {
         assert_eq!(rt;
             thunk_into(&mut world, 0x200_0000)?,
             Some(0x40_0000 + 16 * number)
         );
     }
+    Ok((world, first))
+}
+
+/// The most numbers of thunks. Dropping an image gives none back.
+#[test]
+fn most_thunks(rt: HostRuntime) -> Result<(), Fail> {
+    let (mut world, first) = with_most_thunks(&rt)?;
     assert_eq!(rt; world.thunk_at(0x4f_fff0), Some(0x200_0000));
     assert_eq!(rt; thunk_into(&mut world, 0x200_0000), Err(WorldFault::Full));
     assert_eq!(rt; world.drop_image(first), Ok(()));
@@ -533,7 +655,7 @@ fn most_thunks(rt: HostRuntime) -> Result<(), Fail> {
 }
 
 /// Puts bytes where they can be written.
-fn put_at(world: &mut World, at: u64, bytes: &[u8]) -> Result<bool, OutOfMemory>
+pub(crate) fn put_at(world: &mut World, at: u64, bytes: &[u8]) -> Result<bool, OutOfMemory>
     ensures kept { OnOk result (world.new.kept ≡ world.old.kept) }
     ensures stacks { OnOk result (stacks world.new.now.soft ≡ stacks world.old.now.soft) }
 {
@@ -546,7 +668,7 @@ fn put_at(world: &mut World, at: u64, bytes: &[u8]) -> Result<bool, OutOfMemory>
 }
 
 /// Puts a byte in many places where they can be written.
-fn fill_at(world: &mut World, at: u64, n: u64, byte: u8) -> Result<bool, OutOfMemory>
+pub(crate) fn fill_at(world: &mut World, at: u64, n: u64, byte: u8) -> Result<bool, OutOfMemory>
     ensures kept { OnOk result (world.new.kept ≡ world.old.kept) }
     ensures stacks { OnOk result (stacks world.new.now.soft ≡ stacks world.old.now.soft) }
 {
@@ -559,7 +681,7 @@ fn fill_at(world: &mut World, at: u64, n: u64, byte: u8) -> Result<bool, OutOfMe
 }
 
 /// Whether these bytes can be read at an address.
-fn reads(world: &World, at: u64, bytes: &[u8]) -> bool {
+pub(crate) fn reads(world: &World, at: u64, bytes: &[u8]) -> bool {
     let n = bytes.len() as u64;
     if !world.can_read(at, n) {
         return false;
@@ -593,20 +715,6 @@ fn ranges(rt: HostRuntime) -> Result<(), Fail> {
     Ok(())
 }
 
-/// Bytes that are put are undone.
-#[test]
-fn undone_bytes(rt: HostRuntime) -> Result<(), Fail> {
-    let mut world = World::new(rt.alloc())?;
-    let _ = world.allot(bytes_of(&rt, 4, 0x11)?, SegKind::Pool)?;
-    let mark = world.mark()?;
-    assert_eq!(rt; put_at(&mut world, 0x1_0000_0001, &[1, 2])?, true);
-    assert_eq!(rt; fill_at(&mut world, 0x1_0000_0002, 2, 9)?, true);
-    assert!(rt; reads(&world, 0x1_0000_0000, &[0x11, 1, 9, 9]));
-    world.rollback(mark)?;
-    assert!(rt; reads(&world, 0x1_0000_0000, &[0x11; 4]));
-    Ok(())
-}
-
 /// Interfaces, and the refusals of the database.
 #[test]
 fn interfaces(rt: HostRuntime) -> Result<(), Fail> {
@@ -626,55 +734,6 @@ fn interfaces(rt: HostRuntime) -> Result<(), Fail> {
     assert_eq!(rt; world.uninstall(firmware, guid), Err(DbRefusal::NotThere));
     assert_eq!(rt; world.uninstall(handle, guid), Ok(()));
     assert_eq!(rt; world.uninstall(handle, guid), Err(DbRefusal::BadHandle));
-    Ok(())
-}
-
-/// A free and an uninstall, undone in the order of their marks. What was spent stays spent.
-#[test]
-fn undone(rt: HostRuntime) -> Result<(), Fail> {
-    let mut world = World::new(rt.alloc())?;
-    let guid = Guid::known(Known::PciIo);
-    let handle = world.install(None, guid, 5, Handle::firmware())?;
-    let block = world.allot(bytes_of(&rt, 24, 0x11)?, SegKind::Pool)?;
-    world.begin_command(100);
-    let outer = world.mark()?;
-    world.free(block, SegKind::Pool)?;
-    world.set_tpl(8)?;
-    let inner = world.mark()?;
-    world.uninstall(handle, guid)?;
-    world.set_tpl(16)?;
-    assert_eq!(rt; world.spend(40), true);
-    assert_eq!(rt;
-        (world.db().is_live(3), world.read(block, 1), world.tpl()),
-        (false, None, 16)
-    );
-    world.rollback(inner)?;
-    assert_eq!(rt;
-        (world.db().is_live(3), world.read(block, 1), world.tpl()),
-        (true, None, 8)
-    );
-    world.rollback(outer)?;
-    assert_eq!(rt;
-        (world.db().is_live(3), world.read(block, 1), world.tpl()),
-        (true, Some(0x11), 4)
-    );
-    assert_eq!(rt; world.left(), 60);
-    Ok(())
-}
-
-/// What a mark inside another keeps goes with the outer one. The next address is as it was.
-#[test]
-fn committed(rt: HostRuntime) -> Result<(), Fail> {
-    let mut world = World::new(rt.alloc())?;
-    let outer = world.mark()?;
-    let inner = world.mark()?;
-    let block = world.allot(bytes_of(&rt, 24, 0x11)?, SegKind::Pool)?;
-    assert_eq!(rt; world.write(block, 2, 0x2222), Ok(()));
-    world.commit(inner);
-    assert_eq!(rt; world.read(block, 4), Some(0x1111_2222));
-    world.rollback(outer)?;
-    assert_eq!(rt; world.read(block, 1), None);
-    assert_eq!(rt; world.allot(bytes_of(&rt, 8, 0)?, SegKind::Pool), Ok(block));
     Ok(())
 }
 

@@ -1,7 +1,11 @@
 ghost use Rattle.std.specs.Prelude.{◌≡◌, ◌+◌, ◌^◌, ◌<◌, ◌≤◌, false, true, nat_le, IfOk, OnOk, Ok, is_some, length, replicate, if◌then◌else◌};
 ghost use Rattle.guest_memory.specs.Segment.{is_block};
 ghost use Rattle.guest_memory.specs.GuestMemory.{bytes_of, is_readable, is_writable_range, put_bytes};
-ghost use Rattle.handle_db.specs.Database.{Gives as GivesDb};
+ghost use Rattle.handle_db.specs.Database.{Gives as GivesDb, interface_of, is_live};
+ghost use Rattle.open_records.specs.OpenRecords.{records_of};
+ghost use Rattle.open_records.specs.Adding.{Gives as GivesRecord, is_full as is_table_full};
+ghost use Rattle.open_records.specs.Verdicts.{judge, may_enter};
+ghost use Rattle.world_model.specs.Records.{all_left, child_left, gone, is_none_or_live, record_entered, records_left, weak_dropped};
 ghost use Rattle.world_model.specs.declared.addresses.TheConstants.{MOST_LEVELS as most_levels, MOST_LISTED as most_listed, MOST_MARKS as most_marks};
 ghost use Rattle.world_model.specs.World.{on_hard, on_soft, with_memory, with_tpl};
 ghost use Rattle.world_model.specs.Faults.{Gives};
@@ -15,15 +19,16 @@ ghost use Rattle.world_model.specs.Events.{command_begun, event_begun, event_end
 ghost use Rattle.world_model.specs.Marks.{committed, depth, kept_stacks, marked, rolled_back, stacks};
 ghost use Rattle.world_model.specs.Kept.{IsKept};
 ghost use Rattle.world_model.specs.Opening.{opening};
-ghost use Rattle.fw_world.specs.Answers.{AsBefore, AsBeforeRefusal};
+ghost use Rattle.fw_world.specs.Answers.{AsBefore, AsBeforeFull, AsBeforeRefusal};
 
 use crate::cap::Cap;
 use crate::mark::Mark;
 use crate::soft_part::SoftPart;
 use ebc_machine::Cpu;
-use fw_types::{Event, EventKind, Guid, Handle, OutOfMemory, Outcome, Status};
+use fw_types::{Attr, Event, EventKind, Guid, Handle, OutOfMemory, Outcome, Status};
 use guest_memory::{GuestMem, MemRefusal, SegKind};
 use handle_db::{Db, DbRefusal};
+use open_records::{RecFault, Records};
 use std::alloc::Global;
 use std::marker::Model;
 use world_model::WorldFault;
@@ -85,7 +90,8 @@ impl World {
 
     /// What holds of every world: no two segments meet and each lies where its kind may, the firmware's
     /// tables are there with their bytes, the database is sound with the interfaces of the firmware and
-    /// of the bus driver, and each image has its segment, its loaded image block and its interface.
+    /// of the bus driver, each image has its segment, its loaded image block and its interface, and the
+    /// open records are sound and name interfaces and handles that are there.
     pub fn is_kept(&self)
         ensures { IsKept self.now.now.soft }
     {
@@ -213,6 +219,14 @@ impl World {
         self.soft.db()
     }
 
+    /// The open records: which agent has which interface open, for which controller and how (UEFI 2.8,
+    /// 7.3: OpenProtocol). Each names an interface and handles that are there.
+    pub fn entries(&self) -> &Records
+        ensures { result.now ≡ self.now.now.soft.records }
+    {
+        self.soft.entries()
+    }
+
     /// Installs an interface of a protocol on a handle, or on a new one where none is named, and
     /// answers the handle (UEFI 2.8, 'EFI_BOOT_SERVICES.InstallProtocolInterface()'). `owner` is the
     /// image that installs it.
@@ -236,7 +250,8 @@ impl World {
         self.soft.install(handle, guid, interface, owner)
     }
 
-    /// Uninstalls a handle's interface of a protocol; a handle without interfaces is no longer live
+    /// Uninstalls a handle's interface of a protocol with its open records. A handle without interfaces is
+    /// no longer live, and the records that name it go
     /// (UEFI 2.8, 'EFI_BOOT_SERVICES.UninstallProtocolInterface()'). Neither the loaded image protocol of
     /// the firmware or of an image that is loaded is uninstalled so, nor the bus driver's binding.
     ///
@@ -252,6 +267,103 @@ impl World {
         ensures refused { AsBeforeRefusal result self.old self.new }
     {
         self.soft.uninstall(handle, guid)
+    }
+
+    // ---- open records
+
+    /// Enters an open of an interface (UEFI 2.8, 7.3: OpenProtocol): a record behind those of the
+    /// interface, or one more in the count of the record with the same agent, controller and attribute.
+    /// The interface is there (`Db::interface`), the agent is live, and so is the controller, or it is 0
+    /// where the open is for none. `Records::judged` says `Add` or `Count` of it.
+    ///
+    /// # Errors
+    ///
+    /// `Full` where there is no such record and there are 65,536 records; `OutOfMemory` where there is no
+    /// memory.
+    pub fn enter(
+        &mut self,
+        handle: Handle,
+        guid: Guid,
+        agent: u64,
+        controller: u64,
+        attr: Attr,
+    ) -> Result<(), RecFault>
+        requires there { is_some (interface_of handle guid self.old.now.soft.database) ≡ true }
+        requires agent { is_live agent self.old.now.soft.database ≡ true }
+        requires controller { is_none_or_live controller self.old.now.soft.database ≡ true }
+        requires verdict { may_enter (judge (records_of self.old.now.soft.records.held handle guid) agent controller attr) ≡ true }
+        ensures answer { GivesRecord result (is_table_full handle guid agent controller attr self.old.now.soft.records) }
+        ensures now { OnOk result (self.new.now ≡ on_soft (record_entered handle guid agent controller attr) self.old.now) }
+        ensures kept { OnOk result (self.new.kept ≡ self.old.kept) }
+        ensures refused { AsBeforeFull result self.old self.new }
+    {
+        self.soft.enter(handle, guid, agent, controller, attr)
+    }
+
+    /// Removes an agent's records for a controller, which may be 0, on an interface, and answers how many
+    /// they were (UEFI 2.8, 7.3: CloseProtocol).
+    ///
+    /// # Errors
+    ///
+    /// `OutOfMemory` where there is no memory.
+    pub fn leave(
+        &mut self,
+        handle: Handle,
+        guid: Guid,
+        agent: u64,
+        controller: u64,
+    ) -> Result<u32, OutOfMemory>
+        ensures number { IfOk result (λ number. number ≡ gone self.old.now.soft self.new.now.soft) }
+        ensures now { OnOk result (self.new.now ≡ on_soft (records_left handle guid agent controller) self.old.now) }
+        ensures kept { OnOk result (self.new.kept ≡ self.old.kept) }
+    {
+        Ok(self.soft.leave(handle, guid, agent, controller))
+    }
+
+    /// Removes an agent's records on all interfaces of a handle, and answers how many they were.
+    ///
+    /// # Errors
+    ///
+    /// `OutOfMemory` where there is no memory.
+    pub fn leave_all(&mut self, handle: Handle, agent: u64) -> Result<u32, OutOfMemory>
+        ensures number { IfOk result (λ number. number ≡ gone self.old.now.soft self.new.now.soft) }
+        ensures now { OnOk result (self.new.now ≡ on_soft (all_left handle agent) self.old.now) }
+        ensures kept { OnOk result (self.new.kept ≡ self.old.kept) }
+    {
+        Ok(self.soft.leave_all(handle, agent))
+    }
+
+    /// Removes an agent's BY_CHILD_CONTROLLER records for a child on all interfaces of a handle, and
+    /// answers how many they were.
+    ///
+    /// # Errors
+    ///
+    /// `OutOfMemory` where there is no memory.
+    pub fn leave_child(
+        &mut self,
+        handle: Handle,
+        agent: u64,
+        child: Handle,
+    ) -> Result<u32, OutOfMemory>
+        ensures number { IfOk result (λ number. number ≡ gone self.old.now.soft self.new.now.soft) }
+        ensures now { OnOk result (self.new.now ≡ on_soft (child_left handle agent child) self.old.now) }
+        ensures kept { OnOk result (self.new.kept ≡ self.old.kept) }
+    {
+        Ok(self.soft.leave_child(handle, agent, child))
+    }
+
+    /// Removes the records BY_HANDLE_PROTOCOL, GET_PROTOCOL and TEST_PROTOCOL of an interface, and answers
+    /// how many they were.
+    ///
+    /// # Errors
+    ///
+    /// `OutOfMemory` where there is no memory.
+    pub fn drop_weak(&mut self, handle: Handle, guid: Guid) -> Result<u32, OutOfMemory>
+        ensures number { IfOk result (λ number. number ≡ gone self.old.now.soft self.new.now.soft) }
+        ensures now { OnOk result (self.new.now ≡ on_soft (weak_dropped handle guid) self.old.now) }
+        ensures kept { OnOk result (self.new.kept ≡ self.old.kept) }
+    {
+        Ok(self.soft.drop_weak(handle, guid))
     }
 
     // ---- images
@@ -282,8 +394,8 @@ impl World {
         self.soft.add_image(bytes, entry, subsystem, device)
     }
 
-    /// Uninstalls the loaded image interface of an image that `add_image` added, and takes out its bytes,
-    /// its loaded image block, and the thunks that enter its bytes.
+    /// Uninstalls the loaded image interface of an image that `add_image` added, as `uninstall` does, and
+    /// takes out its bytes, its loaded image block, and the thunks that enter its bytes.
     ///
     /// # Errors
     ///
@@ -302,6 +414,13 @@ impl World {
         ensures { result ≡ self.now.now.soft.next_image }
     {
         self.soft.next_image()
+    }
+
+    /// The address at which the next block would be made. Takes no memory.
+    pub fn next_block(&self) -> u64
+        ensures { result ≡ self.now.now.soft.next_block }
+    {
+        self.soft.next_block()
     }
 
     /// The image whose bytes an address lies in, of those that `add_image` added; `None` exactly where it
@@ -400,6 +519,7 @@ impl World {
     }
 
     /// Spends units; false exactly where fewer are left, and then nothing is spent.
+    #[inline]
     pub fn spend(&mut self, n: u64) -> bool
         ensures enough { result ≡ nat_le n self.old.now.hard.units }
         ensures now { self.new.now ≡ (if result then on_hard (units_spent n) self.old.now else self.old.now) }

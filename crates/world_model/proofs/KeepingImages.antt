@@ -33,10 +33,12 @@ use Rattle.world_model.proofs.Fits.{free-overlap, image-fits}
 use Rattle.world_model.proofs.Front.{tables-mapped, tables-unmapped}
 use Rattle.world_model.proofs.Bases.{bases-mapped_image, bases-unmapped, bases-unmapped_other, no_image}
 use Rattle.world_model.proofs.Databases.{has-installed, has-new, has-removed}
+use Rattle.world_model.proofs.Opened.{opens-installed, opens-removed}
 use Rattle.world_model.proofs.Loaded.{all_between, all_same_or_other, bases-without, found_passes, is_between, is_same_or_other, rise-filter, rise-push}
 use Rattle.world_model.proofs.Stay.{blocks-mapped, blocks-unmapped, entries-mapped, entries-unmapped, lists-mapped_other, lists-unmapped_other}
 use Rattle.world_model.proofs.Structures.{length-block}
 use Rattle.world_model.proofs.KeepingBlocks.{allotting, fitting as fitting_block, placed-later, ranges}
+use Rattle.world_model.proofs.KeepingRecords.{opens_of}
 use Rattle.world_model.proofs.KeepingInterfaces.{installed-more}
 use Rattle.world_model.proofs.Entered.{entered-mapped, entered-unmapped_other, entered-without, numbers-without}
 
@@ -149,6 +151,9 @@ adding soft bytes entry subsystem device kept inside full =
           (has-new db one (none_next db.next db.handles kept.sound.below));
       entered = entered-mapped image memory soft.thunks after.entered;
       numbered = kept.numbered;
+      records = kept.records;
+      records_limit = kept.records_limit;
+      opened = (opens-installed None one db soft.records (opens_of soft kept)).opened;
       image_range = omega arith;
       block_range = subst (λ b. b ≤ BLOCK_END) same after.block_range;
       thunk_range = kept.thunk_range;
@@ -184,6 +189,7 @@ dropping_one soft number one kept found =
     let blocks_base : list_all (λ (i : LoadedImage). not (nat_eq i.block one.base)) images ≡ true =
     list_all-mono (is_between 3 FIRST_IMAGE FIRST_BLOCK db.next soft.next_image soft.next_block) (λ (i : LoadedImage). not (nat_eq i.block one.base)) images (λ i within. grind (arith, nat_tests)) between in
     let placed = list_all-unmapped (is_placed soft.next_image soft.next_block) one.base memory kept.placed in
+    let opens = opens-removed one.handle guid db soft.records kept.sound (opens_of soft kept) in
     record {
       apart = lie_from-unmapped 0 without one.block (lie_from-unmapped 0 memory one.base kept.apart);
       placed = list_all-unmapped (is_placed soft.next_image soft.next_block) one.block without placed;
@@ -216,6 +222,9 @@ dropping_one soft number one kept found =
           (no_image soft.next_image soft.next_block one.block without placed (inr (omega arith)))
           (entered-without one.base memory soft.thunks kept.entered);
       numbered = numbers-without (beginning_at memory one.base) 0 soft.thunks soft.next_thunk kept.numbered;
+      records = opens.sound;
+      records_limit = opens.limit;
+      opened = opens.opened;
       image_range = kept.image_range;
       block_range = kept.block_range;
       thunk_range = kept.thunk_range;

@@ -18,7 +18,9 @@ use Rattle.world_model.specs.Kept.{is_installed}
 use Rattle.world_model.specs.Keeping.{InstallingKeeps, UninstallingKeeps}
 use Rattle.world_model.proofs.Segments.{list_all-mono, list_all-not, list_all-both}
 use Rattle.world_model.proofs.Databases.{has-installed, has-removed}
+use Rattle.world_model.proofs.Opened.{opens-installed, opens-removed}
 use Rattle.world_model.proofs.Loaded.{rise-later}
+use Rattle.world_model.proofs.KeepingRecords.{opens_of}
 
 -- installing leaves the interfaces of images
 pub installed-more : (db : Database) (who : Option ℕ) (new : Interface) (images : List LoadedImage) → list_all (is_installed db) images ≡ true → list_all (is_installed (installed who new db)) images ≡ true
@@ -56,6 +58,9 @@ installing soft who new kept accepted =
       installed = installed-more db who new soft.images kept.installed;
       entered = kept.entered;
       numbered = kept.numbered;
+      records = kept.records;
+      records_limit = kept.records_limit;
+      opened = (opens-installed who new db soft.records (opens_of soft kept)).opened;
       image_range = kept.image_range;
       block_range = kept.block_range;
       thunk_range = kept.thunk_range;
@@ -91,6 +96,7 @@ uninstalling soft handle guid kept lasting =
     let image_guid = known_guid LoadedImageProtocol in
     let parts = or_parts (bytes_eq guid image_guid && (nat_eq handle firmware || is_image handle soft.images)) (bytes_eq guid (known_guid DriverBinding) && nat_eq handle bus_driver) lasting in
     let two = both_fail (bytes_eq guid image_guid) (nat_eq handle firmware) (is_image handle soft.images) parts.0 in
+    let opens = opens-removed handle guid db soft.records kept.sound (opens_of soft kept) in
     record {
       apart = kept.apart;
       placed = kept.placed;
@@ -107,6 +113,9 @@ uninstalling soft handle guid kept lasting =
       installed = by_guid (bytes_eq guid image_guid) refl two.1;
       entered = kept.entered;
       numbered = kept.numbered;
+      records = opens.sound;
+      records_limit = opens.limit;
+      opened = opens.opened;
       image_range = kept.image_range;
       block_range = kept.block_range;
       thunk_range = kept.thunk_range;

@@ -50,6 +50,9 @@ making soft entry kept some ok =
           list_all-append (is_entered soft.memory) soft.thunks (new ∷ [])
           ∙ and_from (list_all (is_entered soft.memory) soft.thunks) (list_all (is_entered soft.memory) (new ∷ [])) kept.entered (and_from (is_entered soft.memory new) true here refl);
       numbered = numbers-push 0 soft.thunks new kept.numbered;
+      records = kept.records;
+      records_limit = kept.records_limit;
+      opened = kept.opened;
       image_range = kept.image_range;
       block_range = kept.block_range;
       thunk_range = omega arith;

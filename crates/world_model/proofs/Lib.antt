@@ -5,10 +5,12 @@ pub mod Fits
 pub mod Front
 pub mod Bases
 pub mod Databases
+pub mod Opened
 pub mod Loaded
 pub mod Stay
 pub mod Entered
 pub mod KeepingBlocks
+pub mod KeepingRecords
 pub mod KeepingInterfaces
 pub mod Structures
 pub mod KeepingImages
@@ -18,5 +20,6 @@ pub mod OpeningKept
 pub mod FixedStay
 pub mod StacksStand
 pub mod Marking
+pub mod Legality
 pub mod Finding
 pub mod Entering

@@ -27,6 +27,9 @@ opening_kept = record {
   installed = refl;
   entered = refl;
   numbered = refl;
+  records = record { rising = refl; apart = refl; kept = refl; few = omega arith };
+  records_limit = refl;
+  opened = refl;
   image_range = omega arith;
   block_range = omega arith;
   thunk_range = omega arith;

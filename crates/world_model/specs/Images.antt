@@ -13,6 +13,7 @@ use Rattle.world_model.specs.declared.fault.WorldFault.{WorldFault}
 use Rattle.world_model.specs.declared.fault.WorldFault.TheVariants.{Full, NotThere}
 use Rattle.world_model.specs.declared.image.LoadedImage.{LoadedImage}
 use Rattle.world_model.specs.World.{Soft}
+use Rattle.world_model.specs.Records.{records_removed}
 use Rattle.world_model.specs.Blocks.{block_segment, is_block_full, taken}
 use Rattle.world_model.specs.Interfaces.{firmware, interface}
 use Rattle.world_model.specs.Thunks.{without_thunks}
@@ -134,12 +135,16 @@ drop_answer handle soft = if is_some (image_of handle soft.images) then Ok tt el
 abbrev pub without_image : ℕ → List LoadedImage → List LoadedImage
 without_image handle images = filter (λ (image : LoadedImage). not (nat_eq image.handle handle)) images
 
--- an image's interface goes, its bytes and its loaded image block, and the thunks that enter its bytes
+-- an image's interface goes with its records, its bytes and its loaded image block, and the thunks that
+-- enter its bytes
 abbrev pub without_loaded : Option LoadedImage → Soft → Soft
 without_loaded None soft = soft
 without_loaded (Some image) soft = record soft {
   memory = unmapped (unmapped soft.memory image.base) image.block;
   database = removed image.handle (known_guid LoadedImageProtocol) soft.database;
+  records =
+      records_removed image.handle (known_guid LoadedImageProtocol) (removed image.handle (known_guid LoadedImageProtocol) soft.database)
+      soft.records;
   images = without_image image.handle soft.images;
   thunks = without_thunks (beginning_at soft.memory image.base) soft.thunks;
 }

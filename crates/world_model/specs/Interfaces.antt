@@ -9,6 +9,7 @@ use Rattle.handle_db.specs.Installing.{install_answer as db_install_answer, inst
 use Rattle.handle_db.specs.Removing.{remove_answer, removed}
 use Rattle.world_model.specs.declared.image.LoadedImage.{LoadedImage}
 use Rattle.world_model.specs.World.{Soft}
+use Rattle.world_model.specs.Records.{records_removed}
 
 -- the handle of the firmware, and that of its PCI bus driver
 abbrev pub firmware : ℕ
@@ -37,8 +38,13 @@ without_value (Err refusal) = Err refusal
 abbrev pub uninstall_answer : ℕ → List ℕ → Soft → Result Unit DbRefusal
 uninstall_answer handle guid soft = without_value (remove_answer handle guid soft.database)
 
+-- An interface goes with its records, and where that was its handle's last one, so do the records that
+-- name the handle.
 abbrev pub interface_removed : ℕ → List ℕ → Soft → Soft
-interface_removed handle guid soft = record soft { database = removed handle guid soft.database }
+interface_removed handle guid soft = record soft {
+  database = removed handle guid soft.database;
+  records = records_removed handle guid (removed handle guid soft.database) soft.records;
+}
 
 -- whether a handle is that of an image that is loaded, the firmware's own image apart
 abbrev pub is_image : ℕ → List LoadedImage → Bool

@@ -5,8 +5,14 @@ use Rattle.guest_memory.specs.declared.segment.SegKind.{SegKind}
 use Rattle.guest_memory.specs.Segment.{is_block}
 use Rattle.guest_memory.specs.GuestMemory.{is_writable_range, map_answer, mapped, put_bytes, write_answer, written}
 use Rattle.handle_db.specs.declared.entry.Interface.{Interface}
+use Rattle.handle_db.specs.Database.{has, is_live}
+use Rattle.fw_types.specs.Attr.{is_legal}
+use Rattle.open_records.specs.OpenRecords.{records_of}
+use Rattle.open_records.specs.Verdicts.{judge, may_enter}
+use Rattle.open_records.specs.Adding.{is_full}
 use Rattle.world_model.specs.World.{Soft, with_memory, with_tpl}
 use Rattle.world_model.specs.Blocks.{block_added, block_freed, block_segment, free_answer, is_block_full}
+use Rattle.world_model.specs.Records.{all_left, child_left, is_none_or_live, record_entered, records_left, weak_dropped}
 use Rattle.world_model.specs.Interfaces.{install_answer, interface_added, interface_removed, is_lasting}
 use Rattle.world_model.specs.Thunks.{thunk_answer, thunk_made}
 use Rattle.world_model.specs.Images.{Told, image_added, image_at, image_dropped, image_segment, is_image_full, told_segment}
@@ -55,6 +61,28 @@ InstallingKeeps =
 abbrev pub UninstallingKeeps : Type 0
 UninstallingKeeps =
     (soft : Soft) (handle : ℕ) (guid : List ℕ) → IsKept soft → is_lasting handle guid soft ≡ false → IsKept (interface_removed handle guid soft)
+
+-- ---- open records
+
+-- an open of an interface that is there, by a live agent, for none or for a live controller
+abbrev pub EnteringKeeps : Type 0
+EnteringKeeps =
+    (soft : Soft) (handle : ℕ) (guid : List ℕ) (agent controller attr : ℕ) → IsKept soft
+    → has handle guid soft.database ≡ true → is_live agent soft.database ≡ true → is_none_or_live controller soft.database ≡ true
+    → may_enter (judge (records_of soft.records.held handle guid) agent controller attr) ≡ true → is_legal attr ≡ true → is_full handle guid agent controller attr soft.records ≡ false
+    → IsKept (record_entered handle guid agent controller attr soft)
+
+abbrev pub LeavingKeeps : Type 0
+LeavingKeeps = (soft : Soft) (handle : ℕ) (guid : List ℕ) (agent controller : ℕ) → IsKept soft → IsKept (records_left handle guid agent controller soft)
+
+abbrev pub AllLeavingKeeps : Type 0
+AllLeavingKeeps = (soft : Soft) (handle agent : ℕ) → IsKept soft → IsKept (all_left handle agent soft)
+
+abbrev pub ChildLeavingKeeps : Type 0
+ChildLeavingKeeps = (soft : Soft) (handle agent child : ℕ) → IsKept soft → IsKept (child_left handle agent child soft)
+
+abbrev pub WeakDroppingKeeps : Type 0
+WeakDroppingKeeps = (soft : Soft) (handle : ℕ) (guid : List ℕ) → IsKept soft → IsKept (weak_dropped handle guid soft)
 
 -- ---- images
 

@@ -8,13 +8,16 @@ use Rattle.guest_memory.specs.declared.segment.SegKind.{SegKind}
 use Rattle.guest_memory.specs.declared.segment.SegKind.TheVariants.{Image, Pool, Firmware, Stack, Table}
 use Rattle.guest_memory.specs.Segment.{has_bytes}
 use Rattle.guest_memory.specs.GuestMemory.{image_with, is_of, lie_from}
-use Rattle.handle_db.specs.Database.{Database, IsSound, interface_of}
-use Rattle.world_model.specs.declared.addresses.TheConstants.{BLOCK_END, BUS_BINDING, CHILD_LISTS, FIRMWARE_IMAGE, FIRST_BLOCK, FIRST_IMAGE, IMAGE_END, LIST_ROOM, MOST_HANDLES, MOST_LEVELS, MOST_THUNKS, STACKS, STACK_SIZE, SYSTEM_TABLE, TABLES_END}
+use Rattle.handle_db.specs.Database.{Database, IsSound, has, interface_of, is_live}
+use Rattle.open_records.specs.OpenRecords.{IsSound as RecordsAreSound}
+use Rattle.open_records.specs.declared.opened.Held.{Held}
+use Rattle.world_model.specs.declared.addresses.TheConstants.{BLOCK_END, BUS_BINDING, CHILD_LISTS, FIRMWARE_IMAGE, FIRST_BLOCK, FIRST_IMAGE, IMAGE_END, LIST_ROOM, MOST_HANDLES, MOST_LEVELS, MOST_RECORDS, MOST_THUNKS, STACKS, STACK_SIZE, SYSTEM_TABLE, TABLES_END}
 use Rattle.world_model.specs.declared.image.LoadedImage.{LoadedImage}
 use Rattle.world_model.specs.declared.thunk.Thunk.{Thunk}
 use Rattle.world_model.specs.World.{Soft, bases}
 use Rattle.world_model.specs.Images.{block_size}
 use Rattle.world_model.specs.Interfaces.{bus_driver, firmware}
+use Rattle.world_model.specs.Records.{is_none_or_live}
 use Rattle.world_model.specs.Stacks.{has_list, has_stack}
 use Rattle.world_model.specs.Tables.{tables}
 
@@ -87,6 +90,12 @@ abbrev pub numbers_rise : ℕ → List Thunk → ℕ → Bool
 numbers_rise number [] next = nat_le number next
 numbers_rise number (thunk ∷ thunks) next = nat_le number thunk.number && numbers_rise (thunk.number + 1) thunks next
 
+-- ---- open records
+
+-- whether a record's interface is there, its agent is live, and so is its controller, where it has one
+abbrev pub is_opened : Database → Held → Bool
+is_opened db held = has held.handle held.guid db && (is_live held.rec.agent db && is_none_or_live held.rec.controller db)
+
 -- ---- all of it
 
 pub record IsKept (soft : Soft) : Type 0 where
@@ -111,6 +120,10 @@ pub record IsKept (soft : Soft) : Type 0 where
   -- each thunk enters an image, and no two have one number
   pub entered : list_all (is_entered soft.memory) soft.thunks ≡ true
   pub numbered : numbers_rise 0 soft.thunks soft.next_thunk ≡ true
+  -- the open records are sound, and name interfaces and handles that are there
+  pub records : RecordsAreSound soft.records
+  pub records_limit : soft.records.limit ≡ MOST_RECORDS
+  pub opened : list_all (is_opened soft.database) soft.records.held ≡ true
   -- the next addresses and the next number are within their ranges
   pub image_range : soft.next_image ≤ IMAGE_END
   pub block_range : soft.next_block ≤ BLOCK_END

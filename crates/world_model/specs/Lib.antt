@@ -1,6 +1,7 @@
 pub mod World
 pub mod Faults
 pub mod Blocks
+pub mod Records
 pub mod Interfaces
 pub mod Thunks
 pub mod Images
@@ -11,6 +12,7 @@ pub mod Marks
 pub mod Tables
 pub mod Opening
 pub mod Kept
+pub mod Legal
 pub mod Fixed
 pub mod Keeping
 pub mod Standing

@@ -1,11 +1,11 @@
 -- The opening state: the firmware with its loaded image, the PCI bus driver with its binding, and the
--- tables.
+-- tables. Nothing is open.
 use Rattle.std.specs.Prelude.{[], ◌∷◌}
 use Rattle.fw_types.specs.Guid.{known_guid}
 use Rattle.fw_types.specs.declared.guid.Known.TheVariants.{LoadedImage, DriverBinding}
 use Rattle.handle_db.specs.Database.{Database}
 use Rattle.handle_db.specs.Installing.{new_entry}
-use Rattle.world_model.specs.declared.addresses.TheConstants.{BUS_BINDING, FIRMWARE_IMAGE, FIRST_BLOCK, FIRST_IMAGE, MOST_HANDLES, TPL_APPLICATION}
+use Rattle.world_model.specs.declared.addresses.TheConstants.{BUS_BINDING, FIRMWARE_IMAGE, FIRST_BLOCK, FIRST_IMAGE, MOST_HANDLES, MOST_RECORDS, TPL_APPLICATION}
 use Rattle.world_model.specs.World.{Held, Soft}
 use Rattle.world_model.specs.Interfaces.{bus_driver, firmware, interface}
 use Rattle.world_model.specs.Tables.{tables}
@@ -25,6 +25,7 @@ abbrev pub opening_soft : Soft
 opening_soft = record {
   memory = tables;
   database = opening_database;
+  records = record { held = []; limit = MOST_RECORDS };
   images = [];
   thunks = [];
   tpl = TPL_APPLICATION;

@@ -5,15 +5,17 @@ use Rattle.guest_memory.specs.declared.segment.Segment.{Segment}
 use Rattle.guest_memory.specs.declared.segment.SegKind.{SegKind}
 use Rattle.guest_memory.specs.GuestMemory.{is_of}
 use Rattle.handle_db.specs.Database.{Database}
+use Rattle.open_records.specs.OpenRecords.{Table}
 use Rattle.world_model.specs.declared.image.LoadedImage.{LoadedImage}
 use Rattle.world_model.specs.declared.thunk.Thunk.{Thunk}
 
--- the memory of drivers; the handle database; the images that are loaded, in order of loading, but for
--- the firmware's own; the live thunks, in order of making; the task priority level; the addresses at
--- which the next image and the next block will lie; and the number of the next thunk
+-- the memory of drivers; the handle database; the open records; the images that are loaded, in order of
+-- loading, but for the firmware's own; the live thunks, in order of making; the task priority level; the
+-- addresses at which the next image and the next block will lie; and the number of the next thunk
 pub record Soft : Type 0 where
   pub memory : List Segment
   pub database : Database
+  pub records : Table
   pub images : List LoadedImage
   pub thunks : List Thunk
   pub tpl : ℕ

@@ -67,6 +67,9 @@ pub const MOST_LISTED: u64 = 16_384;
 /// The most handles that are live.
 pub const MOST_HANDLES: u32 = 4096;
 
+/// The most open records.
+pub const MOST_RECORDS: u32 = 65_536;
+
 /// The most numbers of thunks that are handed out.
 pub const MOST_THUNKS: u32 = 65_536;
 

@@ -4,9 +4,10 @@
 ghost use Rattle.world_model.specs.Entering.{DroppingTakesThunks, MadeIsFound, MakingKeepsOthers, ThunkEntersImage};
 ghost use Rattle.world_model.specs.Finding.{AddedIsFound};
 ghost use Rattle.world_model.specs.Fixed.{MappingKeepsFixed, PuttingKeepsFixed, UnmappingKeepsFixed, WritingKeepsFixed};
+ghost use Rattle.world_model.specs.Legal.{DeadIsNotNamed, EveryoneIsLegal, NoneIsLost};
 ghost use Rattle.world_model.specs.Marks.{CommitSpendsMark, RollbackPutsBack};
 ghost use Rattle.world_model.specs.Standing.{AddingKeepsStacks, AllottingKeepsStacks, DroppingKeepsStacks, FreeingKeepsStacks, PoppedIsGone, PoppingTakesStack, PushedIsThere, PushingAddsStack, PuttingKeepsStacks, StackOfLevel, WritingKeepsStacks};
-ghost use Rattle.world_model.specs.Keeping.{AddingKeeps, AllottingKeeps, BlockFits, DroppingKeeps, FreeingKeeps, ImageFits, InstallingKeeps, ListFits, MakingKeeps, OpeningIsKept, PoppingKeeps, PushingKeeps, PuttingKeeps, StackFits, ToldFits, TplKeeps, UninstallingKeeps, WritingKeeps};
+ghost use Rattle.world_model.specs.Keeping.{AddingKeeps, AllLeavingKeeps, AllottingKeeps, BlockFits, ChildLeavingKeeps, DroppingKeeps, EnteringKeeps, FreeingKeeps, ImageFits, InstallingKeeps, LeavingKeeps, ListFits, MakingKeeps, OpeningIsKept, PoppingKeeps, PushingKeeps, PuttingKeeps, StackFits, ToldFits, TplKeeps, UninstallingKeeps, WeakDroppingKeeps, WritingKeeps};
 
 /// The tables, lists of children and blocks of the firmware keep their bytes while they are mapped:
 /// they change by being mapped and unmapped alone.
@@ -27,11 +28,24 @@ pub fn changes_keep()
     ensures freeing { FreeingKeeps }
     ensures installing { InstallingKeeps }
     ensures uninstalling { UninstallingKeeps }
+    ensures entering { EnteringKeeps }
+    ensures leaving { LeavingKeeps }
+    ensures all_leaving { AllLeavingKeeps }
+    ensures child_leaving { ChildLeavingKeeps }
+    ensures weak_dropping { WeakDroppingKeeps }
     ensures adding { AddingKeeps }
     ensures dropping { DroppingKeeps }
     ensures making { MakingKeeps }
     ensures pushing { PushingKeeps }
     ensures popping { PoppingKeeps }
+{}
+
+/// The open records, each seen with its interface, are legal, and none is left out. A handle that is not
+/// live is named by none.
+pub fn records_are_legal()
+    ensures legal { EveryoneIsLegal }
+    ensures whole { NoneIsLost }
+    ensures dead { DeadIsNotNamed }
 {}
 
 /// A segment that a change maps meets no other and passes no limit, unless the change is refused.

@@ -3,6 +3,7 @@ use Rattle.world_model.proofs.KeepingBlocks.{allotting, freeing, putting, tpl_se
 use Rattle.world_model.proofs.KeepingInterfaces.{installing, uninstalling}
 use Rattle.world_model.proofs.KeepingImages.{adding, dropping}
 use Rattle.world_model.proofs.KeepingStacks.{popping, pushing}
+use Rattle.world_model.proofs.KeepingRecords.{all_leaving, child_leaving, entering, leaving, weak_dropping}
 use Rattle.world_model.proofs.KeepingThunks.{making}
 use Rattle.world_model.proofs.laws.changes_keep.Goals as goal
 
@@ -16,6 +17,11 @@ returns c = record {
   freeing = freeing;
   installing = installing;
   uninstalling = uninstalling;
+  entering = entering;
+  leaving = leaving;
+  all_leaving = all_leaving;
+  child_leaving = child_leaving;
+  weak_dropping = weak_dropping;
   adding = adding;
   dropping = dropping;
   making = making;

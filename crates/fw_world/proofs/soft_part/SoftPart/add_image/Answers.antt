@@ -15,7 +15,7 @@ pub map_image-requires-clause-block : goal.map_image-requires-clause-block
 map_image-requires-clause-block c =
     let inside = c.self.inside in
     let bytes = c.args.bytes.items in
-    let soft : Soft = record { memory = inside.memory; database = inside.database; images = inside.images.items; thunks = inside.thunks.items; tpl = inside.tpl; next_image = inside.next_image; next_block = inside.next_block; next_thunk = inside.next_thunk } in
+    let soft : Soft = record { memory = inside.memory; database = inside.database; records = inside.records; images = inside.images.items; thunks = inside.thunks.items; tpl = inside.tpl; next_image = inside.next_image; next_block = inside.next_block; next_thunk = inside.next_thunk } in
     let count : c.len-size.result ≡ length bytes = c.len-size.ensures ∙ c.args.bytes.ok.0 in
     let room : is_image_full (length bytes) soft ≡ false =
     ap (λ (size : ℕ). is_image_full size soft) (sym count) ∙ image_room soft c.args.self.now c.len-size.result c.is_image_full.result c.in_ok-handle.handle c.self.view_is c.is_image_full.ensures c.if-is_image_full.false c.in_ok-handle.ensures.answer in
@@ -31,7 +31,7 @@ pub map_image-requires-clause-image : goal.map_image-requires-clause-image
 map_image-requires-clause-image c =
     let inside = c.self.inside in
     let bytes = c.args.bytes.items in
-    let soft : Soft = record { memory = inside.memory; database = inside.database; images = inside.images.items; thunks = inside.thunks.items; tpl = inside.tpl; next_image = inside.next_image; next_block = inside.next_block; next_thunk = inside.next_thunk } in
+    let soft : Soft = record { memory = inside.memory; database = inside.database; records = inside.records; images = inside.images.items; thunks = inside.thunks.items; tpl = inside.tpl; next_image = inside.next_image; next_block = inside.next_block; next_thunk = inside.next_thunk } in
     let count : c.len-size.result ≡ length bytes = c.len-size.ensures ∙ c.args.bytes.ok.0 in
     let room : is_image_full (length bytes) soft ≡ false =
     ap (λ (size : ℕ). is_image_full size soft) (sym count) ∙ image_room soft c.args.self.now c.len-size.result c.is_image_full.result c.in_ok-handle.handle c.self.view_is c.is_image_full.ensures c.if-is_image_full.false c.in_ok-handle.ensures.answer in
@@ -47,7 +47,7 @@ map_image-requires-clause-image c =
 pub invariant_of-self-in_err-map_image : goal.invariant_of-self-in_err-map_image
 invariant_of-self-in_err-map_image c =
     let inside = c.self.inside in
-    let soft : Soft = record { memory = inside.memory; database = inside.database; images = inside.images.items; thunks = inside.thunks.items; tpl = inside.tpl; next_image = inside.next_image; next_block = inside.next_block; next_thunk = inside.next_thunk } in
+    let soft : Soft = record { memory = inside.memory; database = inside.database; records = inside.records; images = inside.images.items; thunks = inside.thunks.items; tpl = inside.tpl; next_image = inside.next_image; next_block = inside.next_block; next_thunk = inside.next_thunk } in
     kept_handle soft c.in_ok-handle.handle (interface c.known-guid.result inside.next_block firmware) c.map_image.new.memory c.new_handle.new.db c.reserve.new.self.items c.self.invariant
     c.in_ok-handle.ensures.answer c.in_err-map_image.ensures.err c.in_ok-handle.ensures.ok c.in_ok-reserve.ensures.items
 
@@ -55,7 +55,7 @@ pub invariant_of-self-2 : goal.invariant_of-self-2
 invariant_of-self-2 c =
     let inside = c.self.inside in
     let bytes = c.args.bytes.items in
-    let soft : Soft = record { memory = inside.memory; database = inside.database; images = inside.images.items; thunks = inside.thunks.items; tpl = inside.tpl; next_image = inside.next_image; next_block = inside.next_block; next_thunk = inside.next_thunk } in
+    let soft : Soft = record { memory = inside.memory; database = inside.database; records = inside.records; images = inside.images.items; thunks = inside.thunks.items; tpl = inside.tpl; next_image = inside.next_image; next_block = inside.next_block; next_thunk = inside.next_thunk } in
     let count : c.len-size.result ≡ length bytes = c.len-size.ensures ∙ c.args.bytes.ok.0 in
     let room : is_image_full (length bytes) soft ≡ false =
     ap (λ (size : ℕ). is_image_full size soft) (sym count) ∙ image_room soft c.args.self.now c.len-size.result c.is_image_full.result c.in_ok-handle.handle c.self.view_is c.is_image_full.ensures c.if-is_image_full.false c.in_ok-handle.ensures.answer in

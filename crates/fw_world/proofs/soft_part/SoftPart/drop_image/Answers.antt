@@ -16,7 +16,7 @@ use Rattle.fw_world.proofs.soft_part.SoftPart.drop_image.Goals as goal
 pub returns-in-None-clause-answer : goal.returns-in-None-clause-answer
 returns-in-None-clause-answer c =
     let inside = c.self.inside in
-    let soft : Soft = record { memory = inside.memory; database = inside.database; images = inside.images.items; thunks = inside.thunks.items; tpl = inside.tpl; next_image = inside.next_image; next_block = inside.next_block; next_thunk = inside.next_thunk } in
+    let soft : Soft = record { memory = inside.memory; database = inside.database; records = inside.records; images = inside.images.items; thunks = inside.thunks.items; tpl = inside.tpl; next_image = inside.next_image; next_block = inside.next_block; next_thunk = inside.next_thunk } in
     let found : image_of c.args.handle inside.images.items ≡ None =
     ap (λ (n : ℕ). image_of n inside.images.items) (sym c.get.ensures.value) ∙ ap (λ (xs : List LoadedImage). image_of c.get.result xs) (sym c.as_slice.ensures.value) ∙ sym c.in-None.ensures
     in
@@ -25,7 +25,7 @@ returns-in-None-clause-answer c =
 pub invariant_of-self : goal.invariant_of-self
 invariant_of-self c =
     let inside = c.self.inside in
-    let soft : Soft = record { memory = inside.memory; database = inside.database; images = inside.images.items; thunks = inside.thunks.items; tpl = inside.tpl; next_image = inside.next_image; next_block = inside.next_block; next_thunk = inside.next_thunk } in
+    let soft : Soft = record { memory = inside.memory; database = inside.database; records = inside.records; images = inside.images.items; thunks = inside.thunks.items; tpl = inside.tpl; next_image = inside.next_image; next_block = inside.next_block; next_thunk = inside.next_thunk } in
     let one = c.in-Some.image.now in
     let found : image_of c.args.handle inside.images.items ≡ Some one =
     ap (λ (n : ℕ). image_of n inside.images.items) (sym c.get.ensures.value) ∙ ap (λ (xs : List LoadedImage). image_of c.get.result xs) (sym c.as_slice.ensures.value) ∙ sym c.in-Some.ensures
@@ -38,12 +38,12 @@ invariant_of-self c =
     (rw c.known-guid.ensures at c.remove.ensures.answer)
     (rw c.known-guid.ensures at c.remove.ensures.ok)
     in
-    rw (memory_is, db_is, thunks_is, c.drop_from.ensures) (kept_dropped soft c.args.handle one c.self.invariant found)
+    rw (c.drop_records.ensures, memory_is, db_is, thunks_is, c.drop_from.ensures, c.known-guid.ensures) (kept_dropped soft c.args.handle one c.self.invariant found)
 
 pub returns-clause-answer : goal.returns-clause-answer
 returns-clause-answer c =
     let inside = c.self.inside in
-    let soft : Soft = record { memory = inside.memory; database = inside.database; images = inside.images.items; thunks = inside.thunks.items; tpl = inside.tpl; next_image = inside.next_image; next_block = inside.next_block; next_thunk = inside.next_thunk } in
+    let soft : Soft = record { memory = inside.memory; database = inside.database; records = inside.records; images = inside.images.items; thunks = inside.thunks.items; tpl = inside.tpl; next_image = inside.next_image; next_block = inside.next_block; next_thunk = inside.next_thunk } in
     let one = c.in-Some.image.now in
     let found : image_of c.args.handle inside.images.items ≡ Some one =
     ap (λ (n : ℕ). image_of n inside.images.items) (sym c.get.ensures.value) ∙ ap (λ (xs : List LoadedImage). image_of c.get.result xs) (sym c.as_slice.ensures.value) ∙ sym c.in-Some.ensures
@@ -53,7 +53,7 @@ returns-clause-answer c =
 pub returns-clause-ok : goal.returns-clause-ok
 returns-clause-ok c =
     let inside = c.self.inside in
-    let soft : Soft = record { memory = inside.memory; database = inside.database; images = inside.images.items; thunks = inside.thunks.items; tpl = inside.tpl; next_image = inside.next_image; next_block = inside.next_block; next_thunk = inside.next_thunk } in
+    let soft : Soft = record { memory = inside.memory; database = inside.database; records = inside.records; images = inside.images.items; thunks = inside.thunks.items; tpl = inside.tpl; next_image = inside.next_image; next_block = inside.next_block; next_thunk = inside.next_thunk } in
     let one = c.in-Some.image.now in
     let found : image_of c.args.handle inside.images.items ≡ Some one =
     ap (λ (n : ℕ). image_of n inside.images.items) (sym c.get.ensures.value) ∙ ap (λ (xs : List LoadedImage). image_of c.get.result xs) (sym c.as_slice.ensures.value) ∙ sym c.in-Some.ensures
@@ -66,4 +66,4 @@ returns-clause-ok c =
     (rw c.known-guid.ensures at c.remove.ensures.answer)
     (rw c.known-guid.ensures at c.remove.ensures.ok)
     in
-    rw (memory_is, db_is, thunks_is, c.drop_from.ensures, ← c.self.view_is, dropped_is soft c.args.handle one found) refl
+    rw (c.drop_records.ensures, memory_is, db_is, thunks_is, c.drop_from.ensures, c.known-guid.ensures, ← c.self.view_is, dropped_is soft c.args.handle one found) refl

@@ -11,7 +11,7 @@ use Rattle.fw_world.proofs.soft_part.SoftPart.make_thunk.Goals as goal
 pub invariant_of-self-2 : goal.invariant_of-self-2
 invariant_of-self-2 c =
     let inside = c.self.inside in
-    let soft : Soft = record { memory = inside.memory; database = inside.database; images = inside.images.items; thunks = inside.thunks.items; tpl = inside.tpl; next_image = inside.next_image; next_block = inside.next_block; next_thunk = inside.next_thunk } in
+    let soft : Soft = record { memory = inside.memory; database = inside.database; records = inside.records; images = inside.images.items; thunks = inside.thunks.items; tpl = inside.tpl; next_image = inside.next_image; next_block = inside.next_block; next_thunk = inside.next_thunk } in
     let some : is_some (image_at c.args.entry soft) ≡ true = ap (λ (s : Soft). is_some (image_at c.args.entry s)) c.self.view_is ∙ c.requires in
     let room : nat_le MOST_THUNKS inside.next_thunk ≡ false = grind (arith, nat_tests) in
     let done : is_ok (thunk_answer soft) ≡ true = rw room refl in

@@ -1,0 +1,134 @@
+//! What a rollback puts back, and what a commit leaves.
+ghost use Rattle.std.specs.Prelude.{◌≡◌, OnOk};
+ghost use Rattle.world_model.specs.Marks.{stacks};
+
+use crate::tests::{bytes_of, fill_at, put_at, reads, thunk_into};
+use crate::{World, WorldFault};
+use fw_types::{Guid, Handle, Known};
+use guest_memory::{GuestMem, MemRefusal, SegKind};
+use handle_db::DbRefusal;
+use std::process::Abort;
+use std::test::Fail;
+use world_model::laws::stacks_stand;
+
+/// A thunk that is undone gives its number back, and one that is committed does not.
+#[test]
+fn undone_thunks(rt: HostRuntime) -> Result<(), Fail> {
+    let mut world = World::new(rt.alloc())?;
+    let _ = world.add_image(bytes_of(&rt, 0x40, 0)?, 0, 11, 0)?;
+    let outer = world.mark()?;
+    assert_eq!(rt; thunk_into(&mut world, 0x200_0001)?, Some(0x40_0000));
+    let inner = world.mark()?;
+    assert_eq!(rt; thunk_into(&mut world, 0x200_0002)?, Some(0x40_0010));
+    world.rollback(inner)?;
+    assert_eq!(rt;
+        (world.thunk_at(0x40_0000), world.thunk_at(0x40_0010)),
+        (Some(0x200_0001), None)
+    );
+    assert_eq!(rt; thunk_into(&mut world, 0x200_0003)?, Some(0x40_0010));
+    world.commit(outer);
+    assert_eq!(rt; world.thunk_at(0x40_0010), Some(0x200_0003));
+    assert_eq!(rt; thunk_into(&mut world, 0x200_0004)?, Some(0x40_0020));
+    Ok(())
+}
+
+/// Bytes that are put are undone.
+#[test]
+fn undone_bytes(rt: HostRuntime) -> Result<(), Fail> {
+    let mut world = World::new(rt.alloc())?;
+    let _ = allot_bytes(&mut world, bytes_of(&rt, 4, 0x11)?)?;
+    let mark = world.mark()?;
+    assert_eq!(rt; put_at(&mut world, 0x1_0000_0001, &[1, 2])?, true);
+    assert_eq!(rt; fill_at(&mut world, 0x1_0000_0002, 2, 9)?, true);
+    assert!(rt; reads(&world, 0x1_0000_0000, &[0x11, 1, 9, 9]));
+    world.rollback(mark)?;
+    assert!(rt; reads(&world, 0x1_0000_0000, &[0x11; 4]));
+    Ok(())
+}
+
+/// Makes a block of the pool.
+fn allot_bytes(world: &mut World, bytes: Vec<u8>) -> Result<u64, WorldFault>
+    ensures kept { OnOk result (world.new.kept ≡ world.old.kept) }
+    ensures stacks { OnOk result (stacks world.new.now.soft ≡ stacks world.old.now.soft) }
+{
+    stacks_stand();
+    let at = world.allot(bytes, SegKind::Pool)?;
+    Ok(at)
+}
+
+/// Frees a block of the pool.
+fn free_block(world: &mut World, at: u64) -> Result<(), WorldFault>
+    ensures kept { OnOk result (world.new.kept ≡ world.old.kept) }
+    ensures stacks { OnOk result (stacks world.new.now.soft ≡ stacks world.old.now.soft) }
+{
+    stacks_stand();
+    world.is_kept();
+    world.free(at, SegKind::Pool)?;
+    Ok(())
+}
+
+/// Uninstalls PCI I/O from a handle.
+fn uninstall_pci(world: &mut World, handle: Handle) -> Result<(), DbRefusal>
+    ensures kept { OnOk result (world.new.kept ≡ world.old.kept) }
+    ensures stacks { OnOk result (stacks world.new.now.soft ≡ stacks world.old.now.soft) }
+{
+    world.uninstall(handle, Guid::known(Known::PciIo))
+}
+
+/// Writes two bytes.
+fn write_two(world: &mut World, at: u64, value: u64) -> Result<(), MemRefusal>
+    ensures kept { OnOk result (world.new.kept ≡ world.old.kept) }
+    ensures stacks { OnOk result (stacks world.new.now.soft ≡ stacks world.old.now.soft) }
+{
+    stacks_stand();
+    world.write(at, 2, value)?;
+    Ok(())
+}
+
+/// A free and an uninstall, undone in the order of their marks. What was spent stays spent.
+#[test]
+fn undone(rt: HostRuntime) -> Result<(), Fail> {
+    let mut world = World::new(rt.alloc())?;
+    let handle = world.install(None, Guid::known(Known::PciIo), 5, Handle::firmware())?;
+    let block = allot_bytes(&mut world, bytes_of(&rt, 24, 0x11)?)?;
+    world.begin_command(100);
+    let outer = world.mark()?;
+    free_block(&mut world, block)?;
+    world.set_tpl(8)?;
+    let inner = world.mark()?;
+    uninstall_pci(&mut world, handle)?;
+    world.set_tpl(16)?;
+    assert_eq!(rt; world.spend(40), true);
+    assert_eq!(rt;
+        (world.db().is_live(3), world.read(block, 1), world.tpl()),
+        (false, None, 16)
+    );
+    world.rollback(inner)?;
+    assert_eq!(rt;
+        (world.db().is_live(3), world.read(block, 1), world.tpl()),
+        (true, None, 8)
+    );
+    world.rollback(outer)?;
+    assert_eq!(rt;
+        (world.db().is_live(3), world.read(block, 1), world.tpl()),
+        (true, Some(0x11), 4)
+    );
+    assert_eq!(rt; world.left(), 60);
+    Ok(())
+}
+
+/// What a mark inside another keeps goes with the outer one. The next address is as it was.
+#[test]
+fn committed(rt: HostRuntime) -> Result<(), Fail> {
+    let mut world = World::new(rt.alloc())?;
+    let outer = world.mark()?;
+    let inner = world.mark()?;
+    let block = allot_bytes(&mut world, bytes_of(&rt, 24, 0x11)?)?;
+    assert_eq!(rt; write_two(&mut world, block, 0x2222), Ok(()));
+    world.commit(inner);
+    assert_eq!(rt; world.read(block, 4), Some(0x1111_2222));
+    world.rollback(outer)?;
+    assert_eq!(rt; world.read(block, 1), None);
+    assert_eq!(rt; allot_bytes(&mut world, bytes_of(&rt, 8, 0)?), Ok(block));
+    Ok(())
+}
