@@ -5,6 +5,11 @@ ghost use Rattle.service_model.specs.Allowed.{is_allowed};
 ghost use Rattle.service_model.specs.BootServices.{charged, ended, is_boot_service, pool_price, priced_behind, priced_first, row, served, with_arguments};
 
 use crate::changes::commit;
+use crate::many::{first_pair, install_multiple};
+use crate::protocols::{
+    close, handle_protocol, install, locate_handle, locate_handle_buffer, locate_protocol,
+    open_protocol, open_protocol_information, protocols_per_handle, uninstall,
+};
 use crate::rows::{
     MOST_BYTES, allocate_pool, copy_mem, free_pool, raise_tpl, restore_tpl, set_mem, stall,
 };
@@ -23,8 +28,21 @@ fn slots_of(s: Service) -> u8
     ensures few { result ≤ most_arguments }
 {
     match s {
-        Service::RaiseTpl | Service::RestoreTpl | Service::FreePool | Service::Stall => 1,
-        Service::AllocatePool | Service::CopyMem | Service::SetMem => 3,
+        Service::RaiseTpl
+        | Service::RestoreTpl
+        | Service::FreePool
+        | Service::Stall
+        | Service::InstallMultiple => 1,
+        Service::AllocatePool
+        | Service::CopyMem
+        | Service::SetMem
+        | Service::Uninstall
+        | Service::HandleProtocol
+        | Service::ProtocolsPerHandle
+        | Service::LocateProtocol => 3,
+        Service::Install | Service::CloseProtocol | Service::OpenProtocolInformation => 4,
+        Service::LocateHandle | Service::LocateHandleBuffer => 5,
+        Service::OpenProtocol => 6,
         _ => 0,
     }
 }
@@ -45,6 +63,17 @@ fn price_of(s: Service, a: &[u64; 16]) -> u64
 {
     match s {
         Service::FreePool => 4,
+        Service::Install
+        | Service::Uninstall
+        | Service::HandleProtocol
+        | Service::OpenProtocol
+        | Service::CloseProtocol => 8,
+        Service::LocateHandle
+        | Service::OpenProtocolInformation
+        | Service::ProtocolsPerHandle
+        | Service::LocateHandleBuffer
+        | Service::LocateProtocol
+        | Service::InstallMultiple => 16,
         Service::AllocatePool => pool_price(a[1]),
         Service::CopyMem => 1 + a[2].div_ceil(8),
         Service::SetMem => 1 + a[1].div_ceil(8),
@@ -70,22 +99,47 @@ fn low8(value: u64) -> u8
     (value % (1 << 8)) as u8
 }
 
-/// What a service does with these arguments.
-fn planned(s: Service, c: &Caller, a: &[u64; 16], w: &World) -> Result<Change, Stop>
-    ensures value { result ≡ (row s).rest c.now a.now w.now.now }
-    ensures allowed { IfOk result (λ change. is_allowed change w.now.now ≡ true) }
+/// The lowest 32 bits of an argument.
+fn low32(value: u64) -> u32
+    ensures { result ≡ value % 2 ^ 32 }
 {
-    rows_are_allowed();
+    (value % (1 << 32)) as u32
+}
+
+/// What a service does with these arguments.
+fn said_by(s: Service, c: &Caller, a: &[u64; 16], w: &World) -> Result<Change, Stop>
+    ensures { result ≡ (row s).rest c.now a.now w.now.now }
+{
     match s {
         Service::RaiseTpl => raise_tpl(a[0], w),
         Service::RestoreTpl => restore_tpl(a[0], w),
         Service::AllocatePool => allocate_pool(a[1], a[2], w),
         Service::FreePool => free_pool(a[0], w),
         Service::Stall => stall(w),
+        Service::Install => install(c.image, a[0], a[1], low32(a[2]), a[3], w),
+        Service::Uninstall => uninstall(a[0], a[1], a[2], w),
+        Service::HandleProtocol => handle_protocol(a[0], a[1], a[2], w),
+        Service::LocateHandle => locate_handle(low32(a[0]), a[1], a[3], a[4], w),
+        Service::OpenProtocol => { open_protocol(a[0], a[1], a[2], a[3], a[4], low32(a[5]), w) }
+        Service::CloseProtocol => close(a[0], a[1], a[2], a[3], w),
+        Service::OpenProtocolInformation => { open_protocol_information(a[0], a[1], a[2], a[3], w) }
+        Service::ProtocolsPerHandle => protocols_per_handle(a[0], a[1], a[2], w),
+        Service::LocateHandleBuffer => locate_handle_buffer(low32(a[0]), a[1], a[3], a[4], w),
+        Service::LocateProtocol => locate_protocol(a[0], a[2], w),
+        Service::InstallMultiple => install_multiple(c.image, a[0], first_pair(c.sp), w),
         Service::CopyMem => copy_mem(a[0], a[1], a[2], w),
         Service::SetMem => set_mem(a[0], a[1], low8(a[2]), w),
         _ => Err(Stop::Status(Status::UNSUPPORTED)),
     }
+}
+
+/// The same, which can be done.
+fn planned(s: Service, c: &Caller, a: &[u64; 16], w: &World) -> Result<Change, Stop>
+    ensures value { result ≡ (row s).rest c.now a.now w.now.now }
+    ensures allowed { IfOk result (λ change. is_allowed change w.now.now ≡ true) }
+{
+    rows_are_allowed();
+    said_by(s, c, a, w)
 }
 
 // ---- how a service goes

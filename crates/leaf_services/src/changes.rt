@@ -1,31 +1,25 @@
 //! Changes of the world: nothing else in this crate changes it, but for the price of a service.
 ghost use Rattle.std.specs.Prelude.{◌≡◌, IfOk, OnOk, length, replicate, true};
 ghost use Rattle.guest_memory.specs.GuestMemory.{bytes_of, is_readable, is_writable_range};
-ghost use Rattle.service_model.specs.Allowed.{is_allowed};
-ghost use Rattle.service_model.specs.Changes.{allotted, committed, number_stored};
-ghost use Rattle.leaf_services.specs.Writable.{StaysWritable};
+ghost use Rattle.service_model.specs.Allowed.{can_store, is_allowed};
+ghost use Rattle.service_model.specs.Changes.{committed};
 
+use crate::buffers::{return_block, store_handles};
+use crate::interfaces::{enter, install, install_many, leave, uninstall};
+use crate::storing::{allot, answered, store, store_if};
 use fw_types::{OutOfMemory, Status};
 use fw_world::{World, WorldFault};
 use guest_memory::SegKind;
-use service_model::laws::blocks_leave_writable;
 use service_model::{Change, Served};
 use std::alloc::Global;
 
-/// The service came back with a status.
-fn answered(status: Status) -> Served
-    ensures { result ≡ Served.Value status.0 }
-{
-    Served::Value(status.0)
-}
-
-/// Stores a number in 8 bytes, which can be written.
-fn store(at: u64, value: u64, w: &mut World) -> Result<(), OutOfMemory>
-    requires { is_writable_range w.old.now.soft.memory at 8 ≡ true }
-    ensures now { OnOk result (w.new.now ≡ number_stored at value w.old.now) }
+/// Sets the task priority level, and answers a number.
+fn set_level(tpl: u8, answer: u64, w: &mut World) -> Result<Served, OutOfMemory>
+    ensures now { IfOk result (λ served. committed (Change.SetTpl tpl answer) w.old.now ≡ (served, w.new.now)) }
     ensures kept { OnOk result (w.new.kept ≡ w.old.kept) }
 {
-    w.put(at, &value.to_le_bytes())
+    w.set_tpl(tpl)?;
+    Ok(Served::Value(answer))
 }
 
 /// So many bytes, all 0.
@@ -35,21 +29,6 @@ fn zeros(alloc: Global, size: u64) -> Result<Vec<u8>, OutOfMemory>
     let mut bytes = Vec::new(alloc);
     bytes.resize(size as usize, 0)?;
     Ok(bytes)
-}
-
-/// Makes a block of the pool of these bytes. Answers its address, or `None` where a limit is met.
-fn allot(bytes: Vec<u8>, w: &mut World) -> Result<Option<u64>, OutOfMemory>
-    ensures now { IfOk result (λ at. allotted bytes.items w.old.now ≡ (at, w.new.now)) }
-    ensures kept { OnOk result (w.new.kept ≡ w.old.kept) }
-    ensures writable { OnOk result (StaysWritable w.old.now w.new.now) }
-{
-    blocks_leave_writable();
-    w.is_kept();
-    match w.allot(bytes, SegKind::Pool) {
-        Ok(at) => Ok(Some(at)),
-        Err(WorldFault::OutOfMemory) => Err(OutOfMemory),
-        Err(_) => Ok(None),
-    }
 }
 
 /// Makes a block of the pool of zeros, and stores its address in 8 bytes, which can be written.
@@ -100,6 +79,31 @@ fn copy_bytes(to: u64, from: u64, n: u64, w: &mut World) -> Result<Served, OutOf
     Ok(answered(Status::SUCCESS))
 }
 
+/// Sets bytes, which can be written, all to one.
+fn fill_bytes(to: u64, n: u64, byte: u8, w: &mut World) -> Result<Served, OutOfMemory>
+    requires { is_writable_range w.old.now.soft.memory to n ≡ true }
+    ensures now { IfOk result (λ served. committed (Change.Fill to n byte) w.old.now ≡ (served, w.new.now)) }
+    ensures kept { OnOk result (w.new.kept ≡ w.old.kept) }
+{
+    w.fill(to, n, byte)?;
+    Ok(answered(Status::SUCCESS))
+}
+
+/// Stores a number where a place is given for it, which can be written, and answers a status.
+fn store_value(
+    out: Option<u64>,
+    value: u64,
+    status: Status,
+    w: &mut World,
+) -> Result<Served, OutOfMemory>
+    requires { can_store out w.old.now ≡ true }
+    ensures now { IfOk result (λ served. committed (Change.Store out value status) w.old.now ≡ (served, w.new.now)) }
+    ensures kept { OnOk result (w.new.kept ≡ w.old.kept) }
+{
+    store_if(out, value, w)?;
+    Ok(answered(status))
+}
+
 /// Makes the change that a row ends with.
 ///
 /// # Errors
@@ -112,16 +116,48 @@ pub fn commit(change: Change, w: &mut World) -> Result<Served, OutOfMemory>
 {
     match change {
         Change::Value(value) => Ok(Served::Value(value)),
-        Change::SetTpl { tpl, answer } => {
-            w.set_tpl(tpl)?;
-            Ok(Served::Value(answer))
-        }
+        Change::SetTpl { tpl, answer } => set_level(tpl, answer, w),
         Change::Allot { size, out } => make_block(size, out, w),
         Change::Free { at } => free_block(at, w),
         Change::Copy { to, from, n } => copy_bytes(to, from, n, w),
-        Change::Fill { to, n, byte } => {
-            w.fill(to, n, byte)?;
-            Ok(answered(Status::SUCCESS))
-        }
+        Change::Fill { to, n, byte } => fill_bytes(to, n, byte, w),
+        Change::Store { out, value, status } => store_value(out, value, status, w),
+        Change::Install {
+            handle,
+            guid,
+            interface,
+            owner,
+            out,
+        } => install(&handle, guid, interface, owner, out, w),
+        Change::InstallMany {
+            handle,
+            list,
+            count,
+            owner,
+            out,
+        } => install_many(&handle, list, count, owner, out, w),
+        Change::Uninstall { handle, guid } => uninstall(handle, guid, w),
+        Change::Open {
+            handle,
+            guid,
+            agent,
+            controller,
+            attr,
+            out,
+            interface,
+        } => enter(handle, guid, agent, controller, attr, out, interface, w),
+        Change::Close {
+            handle,
+            guid,
+            agent,
+            controller,
+        } => leave(handle, guid, agent, controller, w),
+        Change::Handles { guid, size, buffer } => store_handles(guid, size, buffer, w),
+        Change::Block {
+            contents,
+            buffer,
+            count,
+            count_first,
+        } => return_block(contents, buffer, count, count_first, w),
     }
 }

@@ -10,12 +10,12 @@ use std::alloc::AllocError;
 use std::test::Fail;
 
 /// Where the sixteen slots of the stack of level 1 begin, and where the stack ends.
-const SLOTS: u64 = 0x81_ff80;
+pub(crate) const SLOTS: u64 = 0x81_ff80;
 
-const STACK_END: u64 = 0x82_0000;
+pub(crate) const STACK_END: u64 = 0x82_0000;
 
 /// A place on the stack of level 1 far from its frame.
-const PLACE: u64 = 0x81_8000;
+pub(crate) const PLACE: u64 = 0x81_8000;
 
 /// `len` bytes, all the same.
 fn bytes_of(rt: &impl AllocGlobal, len: usize, byte: u8) -> Result<Vec<u8>, AllocError> {
@@ -23,7 +23,7 @@ fn bytes_of(rt: &impl AllocGlobal, len: usize, byte: u8) -> Result<Vec<u8>, Allo
 }
 
 /// A world with a stack of level 1 and one image, whose handle is 3, and with so many units.
-fn world_with(rt: &impl AllocGlobal, units: u32) -> Result<World, Fail> {
+pub(crate) fn world_with(rt: &impl AllocGlobal, units: u32) -> Result<World, Fail> {
     let mut world = World::new(rt.alloc())?;
     let _ = world.push_stack(1, &[0; 16], &[])?;
     let _ = world.add_image(vec![in rt.alloc(); 0x11u8, 0x22, 0x33, 0x44]?, 0, 11, 0)?;
@@ -32,7 +32,7 @@ fn world_with(rt: &impl AllocGlobal, units: u32) -> Result<World, Fail> {
 }
 
 /// A service called by image 3 with these arguments.
-fn call(world: &mut World, s: Service, arguments: &[u64]) -> Result<Served, Fail>
+pub(crate) fn call(world: &mut World, s: Service, arguments: &[u64]) -> Result<Served, Fail>
     requires { is_boot_service s ≡ true }
 {
     let mut at = SLOTS;
@@ -44,7 +44,7 @@ fn call(world: &mut World, s: Service, arguments: &[u64]) -> Result<Served, Fail
 }
 
 /// A service called by image 3 with the arguments at an address.
-fn called_at(world: &mut World, s: Service, sp: u64) -> Result<Served, Fail>
+pub(crate) fn called_at(world: &mut World, s: Service, sp: u64) -> Result<Served, Fail>
     requires { is_boot_service s ≡ true }
 {
     let caller = Caller {
@@ -56,7 +56,7 @@ fn called_at(world: &mut World, s: Service, sp: u64) -> Result<Served, Fail>
 }
 
 /// What a service answers that comes back with a status.
-fn with(status: Status) -> Served {
+pub(crate) fn with(status: Status) -> Served {
     Served::Value(status.0)
 }
 

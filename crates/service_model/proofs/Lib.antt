@@ -1,5 +1,10 @@
 pub mod Blocks
+pub mod Found
+pub mod Puts
 pub mod Lines
 pub mod Rows
 pub mod Ways
 pub mod Leaving
+pub mod Parts
+pub mod Lasting
+pub mod Pairs

@@ -1,85 +1,257 @@
--- Which rows set the task priority level.
-use Rattle.std.proofs.Common.{◌≡◌, ℕ, Bool, true, false, nat_lt, List, refl}
-use Rattle.std.specs.Prelude.{Result, Ok, Err}
-use Rattle.fw_types.specs.declared.status.TheConstants.Status.{INVALID_PARAMETER, OUT_OF_RESOURCES, UNSUPPORTED}
-use Rattle.guest_memory.specs.GuestMemory.{most_bytes}
+-- What rows say: changes that can be made, and that leave the task priority level, but for the two
+-- services that set it.
+use Rattle.std.proofs.Common.{◌≡◌, ◌≤◌, ℕ, zero, suc, ◌+◌, ◌*◌, Bool, true, false, ◌&&◌, not, nat_eq, nat_le, List, refl, ap, ◌∙◌, subst, rules, arith}
+use Rattle.std.specs.Prelude.{Option, Some, None, is_some, Ok, Err, if◌then◌else◌}
+use Rattle.std.proofs.lemmas.Bool.{and_from, le-leb, not-false, or_parts, or_right}
+use Rattle.fw_types.specs.Attr.{is_legal}
+use Rattle.fw_types.specs.declared.status.TheConstants.Status.{ACCESS_DENIED, ALREADY_STARTED, NOT_FOUND, SUCCESS, UNSUPPORTED}
+use Rattle.fw_types.specs.declared.event.Cause.TheVariants.{Memory}
+use Rattle.guest_memory.specs.GuestMemory.{is_readable, is_writable_range}
+use Rattle.handle_db.specs.Database.{interface_of, is_live}
+use Rattle.open_records.specs.OpenRecords.{records_of}
+use Rattle.open_records.specs.Verdicts.{judge, may_enter}
+use Rattle.open_records.specs.declared.verdict.Verdict.{Verdict}
+use Rattle.open_records.specs.declared.verdict.Verdict.TheVariants.{Add, Count, Already, Denied, MustDisconnect}
 use Rattle.service_thunks.specs.declared.service.Service.{Service}
-use Rattle.service_thunks.specs.declared.service.Service.TheVariants.{RaiseTpl, RestoreTpl, AllocatePool, FreePool, Install, Uninstall, HandleProtocol, LocateHandle, Stall, ConnectController, DisconnectController, OpenProtocol, CloseProtocol, OpenProtocolInformation, ProtocolsPerHandle, LocateHandleBuffer, LocateProtocol, InstallMultiple, UninstallMultiple, CopyMem, SetMem, MemRead, MemWrite, PciRead, PciWrite, GetLocation, Attributes, Unbuilt}
+use Rattle.service_thunks.specs.declared.service.Service.TheVariants as service
 use Rattle.world_model.specs.World.{State}
-use Rattle.service_model.specs.Words.{null, readable, refuse_if, writable, ◌>>◌}
-use Rattle.service_model.specs.BootServices.{arg, arg8, row}
+use Rattle.world_model.specs.Interfaces.{firmware}
+use Rattle.world_model.specs.Records.{is_none_or_live}
+use Rattle.service_model.specs.Words.{dead, legal, null, number, readable, refuse_if, there, writable}
+use Rattle.service_model.specs.Rows.{allocate_pool, copy_mem, raise_tpl, restore_tpl, set_mem, tpl_high_level}
+use Rattle.service_model.specs.Protocols.{by_handle_protocol, close, counted, how_many, install, locate_handle, locate_handle_buffer, locate_protocol, located, open_protocol, open_protocol_information, opened, out_of, out_size, protocols_per_handle, said, said_to, stored_in, test_protocol, uninstall}
+use Rattle.service_model.specs.Many.{first_pair, install_multiple, interface_place, most_pairs, pair_place, pairs_before}
+use Rattle.service_model.specs.BootServices.{arg, arg32, arg8, row}
+use Rattle.service_model.specs.Allowed.{RowsAreAllowed, can_store, is_allowed, is_of_image}
 use Rattle.service_model.specs.Untouched.{sets_tpl}
 use Rattle.service_model.specs.declared.call.Caller.{Caller}
+use Rattle.service_model.specs.declared.plan.Contents.{Contents}
 use Rattle.service_model.specs.declared.plan.Change.{Change}
-use Rattle.service_model.specs.declared.plan.Change.TheVariants.{Value, SetTpl, Allot, Free, Copy, Fill}
-use Rattle.service_model.specs.declared.plan.Stop.{Stop}
-use Rattle.service_model.specs.declared.plan.Stop.TheVariants.{Status}
-use Rattle.service_model.proofs.Lines.{Says, says-behind, says-change, says-stop}
+use Rattle.service_model.specs.declared.plan.Change.TheVariants.{Block, Free, Open, SetTpl, Store, Value}
+use Rattle.service_model.specs.declared.plan.Stop.TheVariants.{Status, Trap}
+use Rattle.service_model.proofs.Lines.{Says, is-legal, is-same, is-there, not-refused, not-stopped, says-behind, says-end, says-found, says-if, says-stop, says-weaker}
 
 -- whether a change sets the level
 abbrev pub is_of_tpl : Change → Bool
 is_of_tpl (SetTpl tpl answer) = true
 is_of_tpl _ = false
 
-abbrev pub LeavesTpl : Change → Type 0
-LeavesTpl change = is_of_tpl change ≡ false
+-- a change that can be made, and leaves the level
+abbrev Fine : State → Change → Type 0
+Fine w change = (is_allowed change w ≡ true) × (is_of_tpl change ≡ false)
 
-unbuilt : Says LeavesTpl (Err (Status UNSUPPORTED))
-unbuilt = says-stop LeavesTpl (Status UNSUPPORTED)
+can-write : (n at : ℕ) (w : State) → writable n at w ≡ Ok tt → is_writable_range w.soft.memory at n ≡ true
+can-write n at w is = not-stopped (is_writable_range w.soft.memory at n) (Trap Memory) is
 
-leaves-after : (line : Result Unit Stop) (rest : Result Change Stop) → Says LeavesTpl rest → Says LeavesTpl (line >> rest)
-leaves-after line rest later = says-behind LeavesTpl line rest (λ done. later)
+can-read : (n at : ℕ) (w : State) → readable n at w ≡ Ok tt → is_readable w.soft.memory at n ≡ true
+can-read n at w is = not-stopped (is_readable w.soft.memory at n) (Trap Memory) is
 
-leaves-last : (line : Result Unit Stop) (change : Change) → LeavesTpl change → Says LeavesTpl (line >> Ok change)
-leaves-last line change other = leaves-after line (Ok change) (says-change LeavesTpl change other)
+pub lives : (handle : ℕ) (w : State) → dead handle w ≡ false → is_live handle w.soft.database ≡ true
+lives handle w is = not-false (is_live handle w.soft.database) (or_parts (null handle) (not (is_live handle w.soft.database)) is).1
 
-pub rows-leave : (s : Service) (c : Caller) (a : List ℕ) (w : State) → sets_tpl s ≡ false → Says LeavesTpl ((row s).rest c a w)
-rows-leave RaiseTpl c a w none = absurd cc
-rows-leave RestoreTpl c a w none = absurd cc
-rows-leave AllocatePool c a w none = leaves-after one (two >> (three >> Ok change)) (leaves-after two (three >> Ok change) (leaves-last three change refl))
+-- ---- installing and uninstalling
+
+install-fine : (owner handle_at guid_at kind interface : ℕ) (w : State) → Says (Fine w) (install owner handle_at guid_at kind interface w)
+install-fine owner handle_at guid_at kind interface w = search (rules, says-behind, says-found, says-end, can-write) depth 30
+
+of-image : (handle : ℕ) (name : List ℕ) (found : ℕ × ℕ) (w : State) → there handle name w ≡ Ok found → refuse_if (nat_eq found.1 firmware) ACCESS_DENIED ≡ Ok tt → is_of_image (interface_of handle name w.soft.database) ≡ true
+of-image handle name found w is other = ap is_of_image (is-there handle name found w is) ∙ ap not (not-refused (nat_eq found.1 firmware) ACCESS_DENIED other)
+
+uninstall-fine : (given guid_at interface : ℕ) (w : State) → Says (Fine w) (uninstall given guid_at interface w)
+uninstall-fine given guid_at interface w = search (rules, says-behind, says-found, says-end, of-image) depth 30
+
+-- ---- opening and closing
+
+-- a handle that is counted is live, unless it counts as 0
+counted-live : (handle : ℕ) (w : State) → null (counted handle w) ≡ false → is_live (counted handle w) w.soft.database ≡ true
+counted-live handle w some = by_test (dead handle w) refl some
   where
-    one : Result Unit Stop
-    one = refuse_if (null (arg a 2)) INVALID_PARAMETER
+    by_test : (gone : Bool) → dead handle w ≡ gone → null (if gone then 0 else handle) ≡ false → is_live (if gone then 0 else handle) w.soft.database ≡ true
+    by_test true is some = absurd cc
+    by_test false is some = lives handle w is
 
-    two : Result Unit Stop
-    two = writable 8 (arg a 2) w
-
-    three : Result Unit Stop
-    three = refuse_if (nat_lt most_bytes (arg a 1)) OUT_OF_RESOURCES
-
-    change : Change
-    change = Allot (arg a 1) (arg a 2)
-rows-leave FreePool c a w none = says-change LeavesTpl (Free (arg a 0)) refl
-rows-leave Stall c a w none = says-change LeavesTpl (Value 0) refl
-rows-leave CopyMem c a w none = leaves-after one (two >> Ok change) (leaves-last two change refl)
+counted-none : (handle : ℕ) (w : State) → is_none_or_live (counted handle w) w.soft.database ≡ true
+counted-none handle w = by_test (dead handle w) refl
   where
-    one : Result Unit Stop
-    one = readable (arg a 2) (arg a 1) w
+    by_test : (gone : Bool) → dead handle w ≡ gone → is_none_or_live (if gone then 0 else handle) w.soft.database ≡ true
+    by_test true is = refl
+    by_test false is = or_right (nat_eq handle 0) (is_live handle w.soft.database) (lives handle w is)
 
-    two : Result Unit Stop
-    two = writable (arg a 2) (arg a 0) w
+-- what an open says where its interface is there
+record Opens (handle : ℕ) (name : List ℕ) (out agent controller attr : ℕ) (w : State) : Type 0 where
+  there : is_some (interface_of handle name w.soft.database) ≡ true
+  can : can_store (out_of attr out) w ≡ true
+  for_live : is_none_or_live controller w.soft.database ≡ true
+  legal : is_legal attr ≡ true
 
-    change : Change
-    change = Copy (arg a 0) (arg a 1) (arg a 2)
-rows-leave SetMem c a w none = leaves-last (writable (arg a 1) (arg a 0) w) (Fill (arg a 0) (arg a 1) (arg8 a 2)) refl
-rows-leave Install c a w none = unbuilt
-rows-leave Uninstall c a w none = unbuilt
-rows-leave HandleProtocol c a w none = unbuilt
-rows-leave LocateHandle c a w none = unbuilt
-rows-leave ConnectController c a w none = unbuilt
-rows-leave DisconnectController c a w none = unbuilt
-rows-leave OpenProtocol c a w none = unbuilt
-rows-leave CloseProtocol c a w none = unbuilt
-rows-leave OpenProtocolInformation c a w none = unbuilt
-rows-leave ProtocolsPerHandle c a w none = unbuilt
-rows-leave LocateHandleBuffer c a w none = unbuilt
-rows-leave LocateProtocol c a w none = unbuilt
-rows-leave InstallMultiple c a w none = unbuilt
-rows-leave UninstallMultiple c a w none = unbuilt
-rows-leave MemRead c a w none = unbuilt
-rows-leave MemWrite c a w none = unbuilt
-rows-leave PciRead c a w none = unbuilt
-rows-leave PciWrite c a w none = unbuilt
-rows-leave GetLocation c a w none = unbuilt
-rows-leave Attributes c a w none = unbuilt
-rows-leave Unbuilt c a w none = unbuilt
+six : (a b c d e f : Bool) → a ≡ true → b ≡ true → c ≡ true → d ≡ true → e ≡ true → f ≡ true → (a && (b && (c && (d && (e && f))))) ≡ true
+six a b c d e f p q r s t u = rw (p, q, r, s, t, u) refl
+
+enters : (handle : ℕ) (name : List ℕ) (out agent controller attr : ℕ) (w : State) → Opens handle name out agent controller attr w → is_live agent w.soft.database ≡ true
+    → may_enter (judge (records_of w.soft.records.held handle name) agent controller attr) ≡ true → (interface : ℕ)
+    → Says (Fine w) (Ok (Open handle name agent controller attr (out_of attr out) interface))
+enters handle name out agent controller attr w opens by_live free interface =
+    says-end (Fine w) (Open handle name agent controller attr (out_of attr out) interface) (
+      six (can_store (out_of attr out) w) (is_some (interface_of handle name w.soft.database)) (is_live agent w.soft.database) (is_none_or_live controller w.soft.database) (is_legal attr)
+          (may_enter (judge (records_of w.soft.records.held handle name) agent controller attr))
+          opens.can opens.there by_live opens.for_live opens.legal free,
+      refl,
+    )
+
+said-fine : (verdict : Verdict) (handle : ℕ) (name : List ℕ) (out agent controller attr interface : ℕ) (w : State) → judge (records_of w.soft.records.held handle name) agent controller attr ≡ verdict
+    → Opens handle name out agent controller attr w → is_live agent w.soft.database ≡ true → Says (Fine w) (said verdict handle name out agent controller attr interface)
+said-fine Add handle name out agent controller attr interface w is opens by_live = enters handle name out agent controller attr w opens by_live (ap may_enter is) interface
+said-fine Count handle name out agent controller attr interface w is opens by_live = enters handle name out agent controller attr w opens by_live (ap may_enter is) interface
+said-fine Already handle name out agent controller attr interface w is opens by_live = says-end (Fine w) (Store (out_of attr out) interface ALREADY_STARTED) (opens.can, refl)
+said-fine Denied handle name out agent controller attr interface w is opens by_live = says-stop (Fine w) (Status ACCESS_DENIED)
+said-fine (MustDisconnect holder) handle name out agent controller attr interface w is opens by_live = says-stop (Fine w) (Status ACCESS_DENIED)
+
+said_to-fine : (handle : ℕ) (name : List ℕ) (out agent controller attr interface : ℕ) (w : State) → Opens handle name out agent controller attr w → (null agent ≡ false → is_live agent w.soft.database ≡ true)
+    → Says (Fine w) (said_to handle name out agent controller attr interface w)
+said_to-fine handle name out agent controller attr interface w opens by_live =
+    says-if (Fine w) (null agent) _ _
+    (λ none. says-end (Fine w) (Store (out_of attr out) interface SUCCESS) (opens.can, refl))
+    (λ some. said-fine (judge (records_of w.soft.records.held handle name) agent controller attr) handle name out agent controller attr interface w refl opens (by_live some))
+
+opened-fine : (found : Option (ℕ × ℕ)) (handle : ℕ) (name : List ℕ) (out agent controller attr : ℕ) (w : State) → interface_of handle name w.soft.database ≡ found
+    → can_store (out_of attr out) w ≡ true → is_legal attr ≡ true → Says (Fine w) (opened found handle name out agent controller attr w)
+opened-fine None handle name out agent controller attr w is can legal = says-end (Fine w) (Store (out_of attr out) 0 UNSUPPORTED) (can, refl)
+opened-fine (Some found) handle name out agent controller attr w is can legal =
+    said_to-fine handle name out (counted agent w) (counted controller w) attr found.0 w
+    (record { there = ap is_some is; can = can; for_live = counted-none controller w; legal = legal })
+    (counted-live agent w)
+
+-- where the interface is stored can be written
+out-writable : (bits attr out : ℕ) (w : State) → legal bits ≡ Ok attr → writable (out_size bits) out w ≡ Ok tt → can_store (out_of attr out) w ≡ true
+out-writable bits attr out w is can = by_test (nat_eq attr test_protocol) (subst (λ size. is_writable_range w.soft.memory out (out_size size) ≡ true) (is-same bits attr is) (can-write (out_size bits) out w can))
+  where
+    by_test : (test : Bool) → is_writable_range w.soft.memory out (if test then 0 else 8) ≡ true → can_store (if test then None else Some out) w ≡ true
+    by_test true can = refl
+    by_test false can = can
+
+open-fine : (given guid_at out agent controller bits : ℕ) (w : State) → Says (Fine w) (open_protocol given guid_at out agent controller bits w)
+open-fine given guid_at out agent controller bits w = search (rules, says-behind, says-found, opened-fine, out-writable, is-legal) depth 30
+
+close-fine : (given guid_at agent controller : ℕ) (w : State) → Says (Fine w) (close given guid_at agent controller w)
+close-fine given guid_at agent controller w = search (rules, says-behind, says-found, says-end) depth 30
+
+-- ---- what is there
+
+block-fine : (what : Contents) (buffer count : ℕ) (first : Bool) (w : State) → writable 8 buffer w ≡ Ok tt → writable 8 count w ≡ Ok tt → Says (Fine w) (Ok (Block what buffer count first))
+block-fine what buffer count first w one two =
+    says-end (Fine w) (Block what buffer count first)
+    (and_from (is_writable_range w.soft.memory buffer 8) (is_writable_range w.soft.memory count 8) (can-write 8 buffer w one) (can-write 8 count w two), refl)
+
+information-fine : (given guid_at buffer count : ℕ) (w : State) → Says (Fine w) (open_protocol_information given guid_at buffer count w)
+information-fine given guid_at buffer count w = search (rules, says-behind, says-found, block-fine) depth 30
+
+protocols-fine : (given buffer count : ℕ) (w : State) → Says (Fine w) (protocols_per_handle given buffer count w)
+protocols-fine given buffer count w = search (rules, says-behind, says-found, block-fine) depth 30
+
+-- ---- which handles have a protocol
+
+stored-fine : (given : ℕ) (name : Option (List ℕ)) (size buffer : ℕ) (w : State) → is_writable_range w.soft.memory size 8 ≡ true → Says (Fine w) (stored_in given name size buffer (8 * how_many name w) w)
+stored-fine given name size buffer w can = search (rules, says-behind, says-if, says-end, and_from, can-write) depth 30
+
+locate-fine : (kind guid_at size buffer : ℕ) (w : State) → Says (Fine w) (locate_handle kind guid_at size buffer w)
+locate-fine kind guid_at size buffer w = search (rules, says-behind, says-found, stored-fine, can-write) depth 30
+
+locate_buffer-fine : (kind guid_at count buffer : ℕ) (w : State) → Says (Fine w) (locate_handle_buffer kind guid_at count buffer w)
+locate_buffer-fine kind guid_at count buffer w = search (rules, says-behind, says-found, block-fine) depth 30
+
+located-fine : (found : Option (ℕ × ℕ)) (out : ℕ) (w : State) → is_writable_range w.soft.memory out 8 ≡ true → Says (Fine w) (located found out)
+located-fine None out w can = says-end (Fine w) (Store (Some out) 0 NOT_FOUND) (can, refl)
+located-fine (Some found) out w can = says-end (Fine w) (Store (Some out) found.0 SUCCESS) (can, refl)
+
+locate_protocol-fine : (guid_at out : ℕ) (w : State) → Says (Fine w) (locate_protocol guid_at out w)
+locate_protocol-fine guid_at out w = search (rules, says-behind, says-found, located-fine, can-write) depth 30
+
+-- ---- many interfaces
+
+-- at most so many more pairs than before are counted
+pub pairs-few : (most done list : ℕ) (w : State) → Says (λ (pairs : ℕ × Bool). pairs.0 ≤ done + most) (pairs_before most done list w)
+unfolding pairs_before
+pairs-few zero done list w =
+    let P : ℕ × Bool → Type 0 = λ pairs. pairs.0 ≤ done + 0 in
+    says-found P (number (pair_place list done) w) _ (λ pointer read. says-end P (done, null pointer) (omega arith))
+pairs-few (suc most) done list w =
+    let P : ℕ × Bool → Type 0 = λ pairs. pairs.0 ≤ done + suc most in
+    says-found P (number (pair_place list done) w) _ (λ pointer read.
+    says-if P (null pointer) (Ok (done, true)) _
+    (λ last. says-end P (done, true) (omega arith))
+    (λ more.
+    says-found P (number (interface_place list done) w) (λ interface. pairs_before most (done + 1) list w) (λ interface there.
+    says-weaker P (pairs_before most (done + 1) list w) (pairs-few most (done + 1) list w) (λ pairs few. omega arith))))
+
+few : (list : ℕ) (pairs : ℕ × Bool) (w : State) → pairs_before most_pairs 0 list w ≡ Ok pairs → nat_le pairs.0 most_pairs ≡ true
+few list pairs w is =
+    let most : pairs.0 ≤ 0 + most_pairs = pairs-few most_pairs 0 list w pairs is in
+    le-leb pairs.0 most_pairs (omega arith)
+
+many-fine : (owner handle_at list : ℕ) (w : State) → Says (Fine w) (install_multiple owner handle_at list w)
+many-fine owner handle_at list w = search (rules, says-behind, says-found, says-end, and_from, few, can-write) depth 30
+
+-- ---- the services on memory
+
+allocate-fine : (size out : ℕ) (w : State) → Says (Fine w) (allocate_pool size out w)
+allocate-fine size out w = search (rules, says-behind, says-end, can-write)
+
+copy-fine : (to from n : ℕ) (w : State) → Says (Fine w) (copy_mem to from n w)
+copy-fine to from n w = search (rules, says-behind, says-end, and_from, can-read, can-write) depth 30
+
+set-fine : (to n byte : ℕ) (w : State) → Says (Fine w) (set_mem to n byte w)
+set-fine to n byte w = search (rules, says-behind, says-end, can-write)
+
+-- ---- all rows
+
+unbuilt : (w : State) → Says (Fine w) (Err (Status UNSUPPORTED))
+unbuilt w = says-stop (Fine w) (Status UNSUPPORTED)
+
+rows-fine : (s : Service) (c : Caller) (a : List ℕ) (w : State) → sets_tpl s ≡ false → Says (Fine w) ((row s).rest c a w)
+rows-fine service.RaiseTpl c a w none = absurd cc
+rows-fine service.RestoreTpl c a w none = absurd cc
+rows-fine service.AllocatePool c a w none = allocate-fine (arg a 1) (arg a 2) w
+rows-fine service.FreePool c a w none = says-end (Fine w) (Free (arg a 0)) (refl, refl)
+rows-fine service.Install c a w none = install-fine c.image (arg a 0) (arg a 1) (arg32 a 2) (arg a 3) w
+rows-fine service.Uninstall c a w none = uninstall-fine (arg a 0) (arg a 1) (arg a 2) w
+rows-fine service.HandleProtocol c a w none = open-fine (arg a 0) (arg a 1) (arg a 2) firmware 0 by_handle_protocol w
+rows-fine service.LocateHandle c a w none = locate-fine (arg32 a 0) (arg a 1) (arg a 3) (arg a 4) w
+rows-fine service.OpenProtocol c a w none = open-fine (arg a 0) (arg a 1) (arg a 2) (arg a 3) (arg a 4) (arg32 a 5) w
+rows-fine service.CloseProtocol c a w none = close-fine (arg a 0) (arg a 1) (arg a 2) (arg a 3) w
+rows-fine service.OpenProtocolInformation c a w none = information-fine (arg a 0) (arg a 1) (arg a 2) (arg a 3) w
+rows-fine service.ProtocolsPerHandle c a w none = protocols-fine (arg a 0) (arg a 1) (arg a 2) w
+rows-fine service.LocateHandleBuffer c a w none = locate_buffer-fine (arg32 a 0) (arg a 1) (arg a 3) (arg a 4) w
+rows-fine service.LocateProtocol c a w none = locate_protocol-fine (arg a 0) (arg a 2) w
+rows-fine service.InstallMultiple c a w none = many-fine c.image (arg a 0) (first_pair c.sp) w
+rows-fine service.Stall c a w none = says-end (Fine w) (Value 0) (refl, refl)
+rows-fine service.CopyMem c a w none = copy-fine (arg a 0) (arg a 1) (arg a 2) w
+rows-fine service.SetMem c a w none = set-fine (arg a 0) (arg a 1) (arg8 a 2) w
+rows-fine service.ConnectController c a w none = unbuilt w
+rows-fine service.DisconnectController c a w none = unbuilt w
+rows-fine service.UninstallMultiple c a w none = unbuilt w
+rows-fine service.MemRead c a w none = unbuilt w
+rows-fine service.MemWrite c a w none = unbuilt w
+rows-fine service.PciRead c a w none = unbuilt w
+rows-fine service.PciWrite c a w none = unbuilt w
+rows-fine service.GetLocation c a w none = unbuilt w
+rows-fine service.Attributes c a w none = unbuilt w
+rows-fine service.Unbuilt c a w none = unbuilt w
+
+pub rows-leave : (s : Service) (c : Caller) (a : List ℕ) (w : State) → sets_tpl s ≡ false → Says (λ change. is_of_tpl change ≡ false) ((row s).rest c a w)
+rows-leave s c a w none change said = (rows-fine s c a w none change said).1
+
+-- the two that set the level
+raise-allowed : (new : ℕ) (w : State) → Says (λ change. is_allowed change w ≡ true) (raise_tpl new w)
+raise-allowed new w =
+    let P : Change → Type 0 = λ change. is_allowed change w ≡ true in
+    says-if P (nat_le w.soft.tpl new && nat_le new tpl_high_level) _ _ (λ can. says-end P (SetTpl new w.soft.tpl) refl) (λ stays. says-end P (Value w.soft.tpl) refl)
+
+restore-allowed : (old : ℕ) (w : State) → Says (λ change. is_allowed change w ≡ true) (restore_tpl old w)
+restore-allowed old w =
+    let P : Change → Type 0 = λ change. is_allowed change w ≡ true in
+    says-if P (nat_le old w.soft.tpl) _ _ (λ can. says-end P (SetTpl old 0) refl) (λ stays. says-end P (Value 0) refl)
+
+pub rows-allowed : RowsAreAllowed
+rows-allowed service.RaiseTpl c a w change said = raise-allowed (arg a 0) w change said
+rows-allowed service.RestoreTpl c a w change said = restore-allowed (arg a 0) w change said
+rows-allowed s c a w change said = (rows-fine s c a w refl change said).0

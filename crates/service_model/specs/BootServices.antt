@@ -6,11 +6,13 @@ use Rattle.fw_types.specs.declared.event.Cause.TheVariants.{Budget}
 use Rattle.guest_memory.specs.GuestMemory.{most_bytes}
 use Rattle.service_thunks.specs.Arguments.{most_arguments}
 use Rattle.service_thunks.specs.declared.service.Service.{Service}
-use Rattle.service_thunks.specs.declared.service.Service.TheVariants.{RaiseTpl, RestoreTpl, AllocatePool, FreePool, Stall, CopyMem, SetMem, MemRead, MemWrite, PciRead, PciWrite, GetLocation, Attributes}
+use Rattle.service_thunks.specs.declared.service.Service.TheVariants.{RaiseTpl, RestoreTpl, AllocatePool, FreePool, Install, Uninstall, HandleProtocol, LocateHandle, Stall, OpenProtocol, CloseProtocol, OpenProtocolInformation, ProtocolsPerHandle, LocateHandleBuffer, LocateProtocol, InstallMultiple, CopyMem, SetMem, MemRead, MemWrite, PciRead, PciWrite, GetLocation, Attributes}
 use Rattle.world_model.specs.World.{State, on_hard}
 use Rattle.world_model.specs.Units.{units_spent}
 use Rattle.service_model.specs.Words.{◌>>=◌, slots}
 use Rattle.service_model.specs.Rows.{allocate_pool, copy_mem, free_pool, raise_tpl, restore_tpl, set_mem, stall}
+use Rattle.service_model.specs.Protocols.{close, handle_protocol, install, locate_handle, locate_handle_buffer, locate_protocol, open_protocol, open_protocol_information, protocols_per_handle, uninstall}
+use Rattle.service_model.specs.Many.{first_pair, install_multiple}
 use Rattle.service_model.specs.Changes.{answered, committed}
 use Rattle.service_model.specs.declared.call.Caller.{Caller}
 use Rattle.service_model.specs.declared.call.Served.{Served}
@@ -37,9 +39,12 @@ fixed slots price rest = record { slots = slots; price = λ a. price; by_argumen
 abbrev pub priced : ℕ → (List ℕ → ℕ) → (Caller → List ℕ → State → Result Change Stop) → Row
 priced slots price rest = record { slots = slots; price = price; by_argument = true; rest = rest }
 
--- an argument, counted from 0: its 64 bits, or the lowest 8
+-- an argument, counted from 0: its 64 bits, or the lowest 32 or 8
 abbrev pub arg : List ℕ → ℕ → ℕ
 arg a k = slice_index a k
+
+abbrev pub arg32 : List ℕ → ℕ → ℕ
+arg32 a k = slice_index a k % 2 ^ 32
 
 abbrev pub arg8 : List ℕ → ℕ → ℕ
 arg8 a k = slice_index a k % 2 ^ 8
@@ -57,6 +62,17 @@ row RaiseTpl = fixed 1 1 (λ c a. raise_tpl (arg a 0))
 row RestoreTpl = fixed 1 1 (λ c a. restore_tpl (arg a 0))
 row AllocatePool = priced 3 (λ a. pool_price (arg a 1)) (λ c a. allocate_pool (arg a 1) (arg a 2))
 row FreePool = fixed 1 4 (λ c a. free_pool (arg a 0))
+row Install = fixed 4 8 (λ c a. install c.image (arg a 0) (arg a 1) (arg32 a 2) (arg a 3))
+row Uninstall = fixed 3 8 (λ c a. uninstall (arg a 0) (arg a 1) (arg a 2))
+row HandleProtocol = fixed 3 8 (λ c a. handle_protocol (arg a 0) (arg a 1) (arg a 2))
+row LocateHandle = fixed 5 16 (λ c a. locate_handle (arg32 a 0) (arg a 1) (arg a 3) (arg a 4))
+row OpenProtocol = fixed 6 8 (λ c a. open_protocol (arg a 0) (arg a 1) (arg a 2) (arg a 3) (arg a 4) (arg32 a 5))
+row CloseProtocol = fixed 4 8 (λ c a. close (arg a 0) (arg a 1) (arg a 2) (arg a 3))
+row OpenProtocolInformation = fixed 4 16 (λ c a. open_protocol_information (arg a 0) (arg a 1) (arg a 2) (arg a 3))
+row ProtocolsPerHandle = fixed 3 16 (λ c a. protocols_per_handle (arg a 0) (arg a 1) (arg a 2))
+row LocateHandleBuffer = fixed 5 16 (λ c a. locate_handle_buffer (arg32 a 0) (arg a 1) (arg a 3) (arg a 4))
+row LocateProtocol = fixed 3 16 (λ c a. locate_protocol (arg a 0) (arg a 2))
+row InstallMultiple = fixed 1 16 (λ c a. install_multiple c.image (arg a 0) (first_pair c.sp))
 row Stall = fixed 1 1 (λ c a. stall)
 row CopyMem = priced 3 (λ a. 1 + per 8 (arg a 2)) (λ c a. copy_mem (arg a 0) (arg a 1) (arg a 2))
 row SetMem = priced 3 (λ a. 1 + per 8 (arg a 1)) (λ c a. set_mem (arg a 0) (arg a 1) (arg8 a 2))

@@ -1,5 +1,8 @@
 pub mod Words
 pub mod Rows
+pub mod Protocols
+pub mod Many
+pub mod Contents
 pub mod Changes
 pub mod BootServices
 pub mod Allowed

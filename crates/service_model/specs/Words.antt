@@ -1,10 +1,13 @@
 -- The language in which rows are written. A row is a list of lines: each looks at the arguments and at
 -- the state, and the row goes on with what it says, or stops.
-use Rattle.std.specs.Prelude.{ℕ, Bool, nat_eq, List, ok_or, Result, Ok, Err, if◌then◌else◌}
+use Rattle.std.specs.Prelude.{ℕ, Bool, false, ◌||◌, not, nat_eq, List, Option, Some, None, is_some, ok_or, Result, Ok, Err, if◌then◌else◌}
 use Rattle.uuid.specs.Parts.{swap_fields}
 use Rattle.fw_types.specs.declared.status.Status.{Status as StatusValue}
+use Rattle.fw_types.specs.Attr.{is_legal}
+use Rattle.fw_types.specs.declared.status.TheConstants.Status.{INVALID_PARAMETER, NOT_FOUND}
 use Rattle.fw_types.specs.declared.event.Cause.TheVariants.{Memory}
 use Rattle.guest_memory.specs.GuestMemory.{bytes_of, is_readable, is_writable_range, loaded}
+use Rattle.handle_db.specs.Database.{interface_of, is_live}
 use Rattle.service_thunks.specs.Arguments.{arguments}
 use Rattle.world_model.specs.World.{State}
 use Rattle.service_model.specs.declared.plan.Stop.{Stop}
@@ -48,3 +51,33 @@ guid at w = if is_readable w.soft.memory at 16 then Ok (swap_fields (bytes_of w.
 -- the first n arguments of a caller, and 0 for the others of 16
 abbrev pub slots : ℕ → ℕ → State → Result (List ℕ) Stop
 slots n sp w = ok_or (arguments w.soft.memory sp n) (Trap Memory)
+
+-- ---- handles and protocols
+
+-- whether a number is that of no live handle. NULL is none.
+abbrev pub dead : ℕ → State → Bool
+dead handle w = null handle || not (is_live handle w.soft.database)
+
+-- a live handle; else the service answers a status
+abbrev pub alive : ℕ → StatusValue → State → Result ℕ Stop
+alive handle status w = if dead handle w then Err (Status status) else Ok handle
+
+-- the handle that is named, or none where NULL is; a dead one is refused
+abbrev pub named : ℕ → State → Result (Option ℕ) Stop
+named handle w =
+    if null handle then Ok None
+    else if dead handle w then Err (Status INVALID_PARAMETER)
+    else Ok (Some handle)
+
+-- a handle's interface of a protocol, and its owner
+abbrev pub there : ℕ → List ℕ → State → Result (ℕ × ℕ) Stop
+there handle name w = ok_or (interface_of handle name w.soft.database) (Status NOT_FOUND)
+
+-- whether a handle has a protocol; a new handle has none
+abbrev pub has_protocol : Option ℕ → List ℕ → State → Bool
+has_protocol None name w = false
+has_protocol (Some handle) name w = is_some (interface_of handle name w.soft.database)
+
+-- bits with which an interface may be opened
+abbrev pub legal : ℕ → Result ℕ Stop
+legal bits = if is_legal bits then Ok bits else Err (Status INVALID_PARAMETER)

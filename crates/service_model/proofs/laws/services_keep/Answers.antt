@@ -1,14 +1,47 @@
-use Rattle.service_model.proofs.Leaving.{fixed-stay, kept-stays, stacks-stay}
+use Rattle.service_model.proofs.Leaving.{Changes, Ground, fixed-stay, kept-by, kept-stays, stacks-stay}
 use Rattle.service_model.proofs.laws.services_keep.Goals as goal
 
 pub returns-clause-fixed : goal.returns-clause-fixed
 returns-clause-fixed c =
-    fixed-stay c.fixed_segments_stay.ensures.putting c.fixed_segments_stay.ensures.mapping c.changes_keep.ensures.allotting c.segments_fit.ensures.block c.rows_are_allowed.ensures
+    let changes : Changes = record {
+      puts = c.changes_keep.ensures.putting;
+      sets = c.changes_keep.ensures.tpl;
+      allots = c.changes_keep.ensures.allotting;
+      frees = c.changes_keep.ensures.freeing;
+      installs = c.changes_keep.ensures.installing;
+      uninstalls = c.changes_keep.ensures.uninstalling;
+      enters = c.changes_keep.ensures.entering;
+      leaves = c.changes_keep.ensures.leaving;
+    } in
+    let ground : Ground = record { keeps = kept-by changes; fits = c.segments_fit.ensures.block; puts = c.puts_leave_writable.ensures; lasting = c.images_do_not_last.ensures } in
+    fixed-stay c.fixed_segments_stay.ensures.putting c.fixed_segments_stay.ensures.mapping ground c.rows_are_allowed.ensures
 
 pub returns-clause-stacks : goal.returns-clause-stacks
 returns-clause-stacks c =
-    stacks-stay c.stacks_stand.ensures.putting c.stacks_stand.ensures.allotting c.stacks_stand.ensures.freeing c.changes_keep.ensures.allotting c.segments_fit.ensures.block c.rows_are_allowed.ensures
+    let changes : Changes = record {
+      puts = c.changes_keep.ensures.putting;
+      sets = c.changes_keep.ensures.tpl;
+      allots = c.changes_keep.ensures.allotting;
+      frees = c.changes_keep.ensures.freeing;
+      installs = c.changes_keep.ensures.installing;
+      uninstalls = c.changes_keep.ensures.uninstalling;
+      enters = c.changes_keep.ensures.entering;
+      leaves = c.changes_keep.ensures.leaving;
+    } in
+    let ground : Ground = record { keeps = kept-by changes; fits = c.segments_fit.ensures.block; puts = c.puts_leave_writable.ensures; lasting = c.images_do_not_last.ensures } in
+    stacks-stay c.stacks_stand.ensures.putting c.stacks_stand.ensures.allotting c.stacks_stand.ensures.freeing ground c.rows_are_allowed.ensures
 
 pub returns-clause-kept : goal.returns-clause-kept
 returns-clause-kept c =
-    kept-stays c.changes_keep.ensures.putting c.changes_keep.ensures.tpl c.changes_keep.ensures.allotting c.changes_keep.ensures.freeing c.segments_fit.ensures.block c.rows_are_allowed.ensures
+    let changes : Changes = record {
+      puts = c.changes_keep.ensures.putting;
+      sets = c.changes_keep.ensures.tpl;
+      allots = c.changes_keep.ensures.allotting;
+      frees = c.changes_keep.ensures.freeing;
+      installs = c.changes_keep.ensures.installing;
+      uninstalls = c.changes_keep.ensures.uninstalling;
+      enters = c.changes_keep.ensures.entering;
+      leaves = c.changes_keep.ensures.leaving;
+    } in
+    let ground : Ground = record { keeps = kept-by changes; fits = c.segments_fit.ensures.block; puts = c.puts_leave_writable.ensures; lasting = c.images_do_not_last.ensures } in
+    kept-stays ground c.rows_are_allowed.ensures

@@ -1,5 +1,14 @@
-use Rattle.service_model.proofs.Leaving.{tpl-stays}
+use Rattle.service_model.proofs.Parts.{events-stay, tpl-stays, traps-change-nothing, units-never-rise}
 use Rattle.service_model.proofs.laws.services_leave.Goals as goal
 
 pub returns-clause-tpl : goal.returns-clause-tpl
 returns-clause-tpl c = tpl-stays
+
+pub returns-clause-events : goal.returns-clause-events
+returns-clause-events c = events-stay
+
+pub returns-clause-units : goal.returns-clause-units
+returns-clause-units c = units-never-rise
+
+pub returns-clause-traps : goal.returns-clause-traps
+returns-clause-traps c = traps-change-nothing

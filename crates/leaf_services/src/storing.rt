@@ -1,0 +1,55 @@
+//! What several changes do: a status is answered, a number is stored, a block of the pool is made.
+ghost use Rattle.std.specs.Prelude.{◌≡◌, IfOk, OnOk, true};
+ghost use Rattle.guest_memory.specs.GuestMemory.{is_writable_range};
+ghost use Rattle.service_model.specs.Allowed.{can_store};
+ghost use Rattle.service_model.specs.Changes.{allotted, number_stored, stored_if};
+ghost use Rattle.leaf_services.specs.Writable.{StaysWritable};
+
+use fw_types::{OutOfMemory, Status};
+use fw_world::{World, WorldFault};
+use guest_memory::SegKind;
+use service_model::Served;
+use service_model::laws::blocks_leave_writable;
+
+/// The service came back with a status.
+pub fn answered(status: Status) -> Served
+    ensures { result ≡ Served.Value status.0 }
+{
+    Served::Value(status.0)
+}
+
+/// Stores a number in 8 bytes, which can be written.
+pub fn store(at: u64, value: u64, w: &mut World) -> Result<(), OutOfMemory>
+    requires { is_writable_range w.old.now.soft.memory at 8 ≡ true }
+    ensures now { OnOk result (w.new.now ≡ number_stored at value w.old.now) }
+    ensures kept { OnOk result (w.new.kept ≡ w.old.kept) }
+{
+    w.put(at, &value.to_le_bytes())
+}
+
+/// Stores a number where a place is given for it, which can be written.
+pub fn store_if(out: Option<u64>, value: u64, w: &mut World) -> Result<(), OutOfMemory>
+    requires { can_store out w.old.now ≡ true }
+    ensures now { OnOk result (w.new.now ≡ stored_if out value w.old.now) }
+    ensures kept { OnOk result (w.new.kept ≡ w.old.kept) }
+{
+    match out {
+        None => Ok(()),
+        Some(at) => store(at, value, w),
+    }
+}
+
+/// Makes a block of the pool of these bytes. Answers its address, or `None` where a limit is met.
+pub fn allot(bytes: Vec<u8>, w: &mut World) -> Result<Option<u64>, OutOfMemory>
+    ensures now { IfOk result (λ at. allotted bytes.items w.old.now ≡ (at, w.new.now)) }
+    ensures kept { OnOk result (w.new.kept ≡ w.old.kept) }
+    ensures writable { OnOk result (StaysWritable w.old.now w.new.now) }
+{
+    blocks_leave_writable();
+    w.is_kept();
+    match w.allot(bytes, SegKind::Pool) {
+        Ok(at) => Ok(Some(at)),
+        Err(WorldFault::OutOfMemory) => Err(OutOfMemory),
+        Err(_) => Ok(None),
+    }
+}

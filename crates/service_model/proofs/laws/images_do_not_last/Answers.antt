@@ -1,0 +1,5 @@
+use Rattle.service_model.proofs.Lasting.{images-go}
+use Rattle.service_model.proofs.laws.images_do_not_last.Goals as goal
+
+pub returns : goal.returns
+returns c = images-go

@@ -1,0 +1,5 @@
+use Rattle.service_model.proofs.Rows.{rows-allowed}
+use Rattle.service_model.proofs.laws.rows_are_allowed.Goals as goal
+
+pub returns : goal.returns
+returns c = rows-allowed

@@ -1,0 +1,228 @@
+-- What each of the protocol handler services does with its arguments (UEFI 2.8, 7.3), but for
+-- InstallMultipleProtocolInterfaces, which `Many` has.
+use Rattle.std.specs.Prelude.{ℕ, ◌*◌, Bool, true, false, ◌&&◌, ◌||◌, not, nat_eq, nat_lt, List, length, Option, Some, None, Result, Ok, Err, if◌then◌else◌}
+use Rattle.std.specs.List.{list_any}
+use Rattle.fw_types.specs.Attr.{has_bit_of}
+use Rattle.fw_types.specs.declared.status.TheConstants.Status.{ACCESS_DENIED, ALREADY_STARTED, BUFFER_TOO_SMALL, INVALID_PARAMETER, NOT_FOUND, SUCCESS, UNSUPPORTED}
+use Rattle.handle_db.specs.Database.{first_with, handles_with, interface_of}
+use Rattle.open_records.specs.OpenRecords.{records_of}
+use Rattle.open_records.specs.Leaving.{is_meant}
+use Rattle.open_records.specs.Verdicts.{judge}
+use Rattle.open_records.specs.declared.verdict.Verdict.{Verdict}
+use Rattle.open_records.specs.declared.verdict.Verdict.TheVariants.{Add, Count, Already, Denied, MustDisconnect}
+use Rattle.world_model.specs.World.{State}
+use Rattle.world_model.specs.Interfaces.{firmware}
+use Rattle.world_model.specs.Records.{any_bit}
+use Rattle.service_model.specs.Words.{◌>>=◌, ◌>>◌, alive, dead, guid, has_protocol, legal, named, null, number, refuse_if, there, writable}
+use Rattle.service_model.specs.declared.plan.Stop.{Stop}
+use Rattle.service_model.specs.declared.plan.Stop.TheVariants.{Status}
+use Rattle.service_model.specs.declared.plan.Contents.TheVariants as contents
+use Rattle.service_model.specs.declared.plan.Change.{Change}
+use Rattle.service_model.specs.declared.plan.Change.TheVariants.{Block, Close, Handles, Install, Open, Store, Uninstall}
+
+-- ---- installing and uninstalling
+
+-- InstallProtocolInterface. Its one type of interface is 0, EFI_NATIVE_INTERFACE.
+abbrev pub install : (owner handle_at guid_at kind interface : ℕ) → State → Result Change Stop
+install owner handle_at guid_at kind interface w = do
+  refuse_if (null handle_at || null guid_at) INVALID_PARAMETER
+  writable 8 handle_at w
+  name ← guid guid_at w
+  given ← number handle_at w
+  refuse_if (not (nat_eq kind 0)) INVALID_PARAMETER
+  handle ← named given w
+  refuse_if (has_protocol handle name w) INVALID_PARAMETER
+  Ok (Install handle name interface owner handle_at)
+
+-- whether a record on an interface has one of some bits, of an agent and for a controller where they are
+-- given
+abbrev pub has_record : ℕ → List ℕ → (agent controller : Option ℕ) (bits : ℕ) → State → Bool
+has_record handle name agent controller bits w =
+    list_any (is_meant agent controller bits) (records_of w.soft.records.held handle name)
+
+-- BY_CHILD_CONTROLLER, BY_DRIVER and EXCLUSIVE
+abbrev pub using_bits : ℕ
+using_bits = 0x38
+
+-- UninstallProtocolInterface. What the firmware owns stays. No driver is disconnected: where one uses
+-- the interface, or has a child by it, the interface stays.
+abbrev pub uninstall : (given guid_at interface : ℕ) → State → Result Change Stop
+uninstall given guid_at interface w = do
+  refuse_if (null guid_at) INVALID_PARAMETER
+  name ← guid guid_at w
+  handle ← alive given INVALID_PARAMETER w
+  found ← there handle name w
+  refuse_if (not (nat_eq found.0 interface)) NOT_FOUND
+  refuse_if (nat_eq found.1 firmware) ACCESS_DENIED
+  refuse_if (has_record handle name None None using_bits w) ACCESS_DENIED
+  Ok (Uninstall handle name)
+
+-- ---- opening and closing
+
+-- BY_HANDLE_PROTOCOL, TEST_PROTOCOL and BY_CHILD_CONTROLLER
+abbrev pub by_handle_protocol : ℕ
+by_handle_protocol = 0x01
+
+abbrev pub test_protocol : ℕ
+test_protocol = 0x04
+
+abbrev pub by_child_controller : ℕ
+by_child_controller = 0x08
+
+-- the bits of the attributes that need a live agent, and of those that need a live controller
+abbrev pub agent_bits : ℕ
+agent_bits = 0x38
+
+abbrev pub controller_bits : ℕ
+controller_bits = 0x18
+
+-- a handle that is not live counts as 0
+abbrev pub counted : ℕ → State → ℕ
+counted handle w = if dead handle w then 0 else handle
+
+-- where the interface is stored, and in how many bytes: never with TEST_PROTOCOL
+abbrev pub out_of : (attr out : ℕ) → Option ℕ
+out_of attr out = if nat_eq attr test_protocol then None else Some out
+
+abbrev pub out_size : (bits : ℕ) → ℕ
+out_size bits = if nat_eq bits test_protocol then 0 else 8
+
+-- What the records of the interface say decides. Where a driver would have to be disconnected first,
+-- the open is denied.
+abbrev pub said : Verdict → (handle : ℕ) → List ℕ → (out agent controller attr interface : ℕ) → Result Change Stop
+said Add handle name out agent controller attr interface = Ok (Open handle name agent controller attr (out_of attr out) interface)
+said Count handle name out agent controller attr interface = Ok (Open handle name agent controller attr (out_of attr out) interface)
+said Already handle name out agent controller attr interface = Ok (Store (out_of attr out) interface ALREADY_STARTED)
+said Denied handle name out agent controller attr interface = Err (Status ACCESS_DENIED)
+said (MustDisconnect holder) handle name out agent controller attr interface = Err (Status ACCESS_DENIED)
+
+-- an open by an agent that counts as 0 is not entered, and none is in its way
+abbrev pub said_to : (handle : ℕ) → List ℕ → (out agent controller attr interface : ℕ) → State → Result Change Stop
+said_to handle name out agent controller attr interface w =
+    if null agent then Ok (Store (out_of attr out) interface SUCCESS)
+    else said (judge (records_of w.soft.records.held handle name) agent controller attr) handle name out agent controller attr interface
+
+-- where the handle does not have the protocol, 0 is stored
+abbrev pub opened : Option (ℕ × ℕ) → (handle : ℕ) → List ℕ → (out agent controller attr : ℕ) → State → Result Change Stop
+opened None handle name out agent controller attr w = Ok (Store (out_of attr out) 0 UNSUPPORTED)
+opened (Some found) handle name out agent controller attr w =
+    said_to handle name out (counted agent w) (counted controller w) attr found.0 w
+
+-- OpenProtocol
+abbrev pub open_protocol : (given guid_at out agent controller bits : ℕ) → State → Result Change Stop
+open_protocol given guid_at out agent controller bits w = do
+  refuse_if (null guid_at) INVALID_PARAMETER
+  handle ← alive given INVALID_PARAMETER w
+  refuse_if (null out && not (nat_eq bits test_protocol)) INVALID_PARAMETER
+  name ← guid guid_at w
+  writable (out_size bits) out w
+  attr ← legal bits
+  refuse_if (has_bit_of agent_bits attr && dead agent w) INVALID_PARAMETER
+  refuse_if (has_bit_of controller_bits attr && dead controller w) INVALID_PARAMETER
+  refuse_if (nat_eq attr by_child_controller && nat_eq handle controller) INVALID_PARAMETER
+  opened (interface_of handle name w.soft.database) handle name out agent controller attr w
+
+-- HandleProtocol opens as the firmware does, for no controller
+abbrev pub handle_protocol : (given guid_at out : ℕ) → State → Result Change Stop
+handle_protocol given guid_at out w = open_protocol given guid_at out firmware 0 by_handle_protocol w
+
+-- CloseProtocol
+abbrev pub close : (given guid_at agent controller : ℕ) → State → Result Change Stop
+close given guid_at agent controller w = do
+  refuse_if (null guid_at) INVALID_PARAMETER
+  name ← guid guid_at w
+  handle ← alive given INVALID_PARAMETER w
+  refuse_if (dead agent w) INVALID_PARAMETER
+  refuse_if (not (null controller) && dead controller w) INVALID_PARAMETER
+  found ← there handle name w
+  refuse_if (not (has_record handle name (Some agent) (Some controller) any_bit w)) NOT_FOUND
+  Ok (Close handle name agent controller)
+
+-- ---- what is there
+
+-- OpenProtocolInformation
+abbrev pub open_protocol_information : (given guid_at buffer count : ℕ) → State → Result Change Stop
+open_protocol_information given guid_at buffer count w = do
+  refuse_if (null guid_at || null buffer || null count) INVALID_PARAMETER
+  name ← guid guid_at w
+  writable 8 buffer w
+  writable 8 count w
+  handle ← alive given NOT_FOUND w
+  found ← there handle name w
+  Ok (Block (contents.Opens handle name) buffer count false)
+
+-- ProtocolsPerHandle
+abbrev pub protocols_per_handle : (given buffer count : ℕ) → State → Result Change Stop
+protocols_per_handle given buffer count w = do
+  refuse_if (null buffer || null count) INVALID_PARAMETER
+  writable 8 buffer w
+  writable 8 count w
+  handle ← alive given INVALID_PARAMETER w
+  Ok (Block (contents.Protocols handle) buffer count false)
+
+-- ---- which handles have a protocol
+
+-- AllHandles and ByProtocol, of EFI_LOCATE_SEARCH_TYPE
+abbrev pub all_handles : ℕ
+all_handles = 0
+
+abbrev pub by_protocol : ℕ
+by_protocol = 2
+
+-- whether a search is for one of these, and has the GUID that it needs
+abbrev pub refuse_search : (search guid_at : ℕ) → Result Unit Stop
+refuse_search search guid_at = do
+  refuse_if (not (nat_eq search all_handles || nat_eq search by_protocol)) INVALID_PARAMETER
+  refuse_if (nat_eq search by_protocol && null guid_at) INVALID_PARAMETER
+
+-- the protocol that is sought, or none where all handles are
+abbrev pub sought : (search guid_at : ℕ) → State → Result (Option (List ℕ)) Stop
+sought search guid_at w = if nat_eq search by_protocol then (guid guid_at w >>= λ name. Ok (Some name)) else Ok None
+
+-- how many handles a search finds
+abbrev pub how_many : Option (List ℕ) → State → ℕ
+how_many name w = length (handles_with name w.soft.database)
+
+-- the handles are stored, where the buffer that is given has room; else the size that they need is
+abbrev pub stored_in : (given : ℕ) → Option (List ℕ) → (size buffer needed : ℕ) → State → Result Change Stop
+stored_in given name size buffer needed w =
+    if nat_lt given needed then Ok (Store (Some size) needed BUFFER_TOO_SMALL)
+    else (do
+      refuse_if (null buffer) INVALID_PARAMETER
+      writable needed buffer w
+      Ok (Handles name size buffer))
+
+-- LocateHandle. The key is not looked at.
+abbrev pub locate_handle : (search guid_at size buffer : ℕ) → State → Result Change Stop
+locate_handle search guid_at size buffer w = do
+  refuse_search search guid_at
+  refuse_if (null size) INVALID_PARAMETER
+  name ← sought search guid_at w
+  writable 8 size w
+  given ← number size w
+  refuse_if (nat_eq (how_many name w) 0) NOT_FOUND
+  stored_in given name size buffer (8 * how_many name w) w
+
+-- LocateHandleBuffer. The key is not looked at.
+abbrev pub locate_handle_buffer : (search guid_at count buffer : ℕ) → State → Result Change Stop
+locate_handle_buffer search guid_at count buffer w = do
+  refuse_search search guid_at
+  refuse_if (null count || null buffer) INVALID_PARAMETER
+  name ← sought search guid_at w
+  writable 8 count w
+  writable 8 buffer w
+  refuse_if (nat_eq (how_many name w) 0) NOT_FOUND
+  Ok (Block (contents.Handles name) buffer count true)
+
+-- 0 is stored where no handle has the protocol
+abbrev pub located : Option (ℕ × ℕ) → (out : ℕ) → Result Change Stop
+located None out = Ok (Store (Some out) 0 NOT_FOUND)
+located (Some found) out = Ok (Store (Some out) found.0 SUCCESS)
+
+-- LocateProtocol. The key is not looked at.
+abbrev pub locate_protocol : (guid_at out : ℕ) → State → Result Change Stop
+locate_protocol guid_at out w = do
+  refuse_if (null guid_at || null out) INVALID_PARAMETER
+  name ← guid guid_at w
+  writable 8 out w
+  located (first_with name w.soft.database) out
