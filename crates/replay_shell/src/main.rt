@@ -12,6 +12,8 @@ mod image_life;
 #[cfg(test)]
 mod image_tests;
 mod machine;
+#[cfg(test)]
+mod protocol_tests;
 mod read;
 mod replay;
 mod report;

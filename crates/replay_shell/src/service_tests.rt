@@ -6,7 +6,7 @@ use std::test::Fail;
 
 /// Puts the address of the boot services into R4: they are a field of the system table, which is the
 /// second argument of an entry.
-const FIND_SERVICES: &str = "\
+pub const FIND_SERVICES: &str = "\
     MOVqw R4, @R0[0x0018]\n\
     MOVqw R4, @R4[0x0060]\n";
 
@@ -39,10 +39,10 @@ const COPY: &str = "CALL32EXa @R4[0x00000160]\n";
 const SET: &str = "CALL32EXa @R4[0x00000168]\n";
 
 /// Answers the 8 bytes to which R1 points.
-const ANSWER: &str = "MOVqw R7, @R1\n";
+pub const ANSWER: &str = "MOVqw R7, @R1\n";
 
 /// Leaves, where R1 points to the first 8 bytes that were put on the stack.
-const LEAVE: &str = "\
+pub const LEAVE: &str = "\
     MOVqw R0, R1[0x0008]\n\
     RET\n";
 
@@ -58,7 +58,7 @@ const PLACE: &str = "\
     RET\n";
 
 /// The bytes of a code in parts.
-fn assembled(alloc: Global, parts: &[&str]) -> Result<Vec<u8>, Fail> {
+pub fn assembled(alloc: Global, parts: &[&str]) -> Result<Vec<u8>, Fail> {
     let mut text = String::new(alloc);
     for part in parts {
         text.push_str(part)?;
