@@ -6,12 +6,13 @@ use crate::status::Status;
 pub enum Cause {
     /// The bytes at the instruction pointer are no instruction.
     Illegal,
-    /// No whole instruction stands at the instruction pointer.
+    /// No image has a whole instruction at the instruction pointer, or a thunk was asked for whose entry
+    /// lies in no image.
     Fetch,
     /// Memory was read where no one segment has all the bytes, or written where none has them or
     /// where the one that has them is not writable.
     Memory,
-    /// A jump, a call or a return went to an odd address.
+    /// A jump, a call or a return went to an odd address, or a thunk was asked for whose entry is odd.
     Align,
     /// A number was divided by 0.
     Divide,
@@ -19,8 +20,6 @@ pub enum Cause {
     Break,
     /// A native call went to an address at which the firmware has no function.
     BadCall,
-    /// A thunk was called at the deepest level.
-    Nest,
     /// A price was more than the units that were left.
     Budget,
     /// The numbers of thunks are all handed out.

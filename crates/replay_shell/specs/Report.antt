@@ -51,7 +51,6 @@ cause_word cause.Align = codes "Align"
 cause_word cause.Divide = codes "Divide"
 cause_word cause.Break = codes "Break"
 cause_word cause.BadCall = codes "BadCall"
-cause_word cause.Nest = codes "Nest"
 cause_word cause.Budget = codes "Budget"
 cause_word cause.Thunks = codes "Thunks"
 

@@ -55,7 +55,6 @@ pub fn cause_name(cause: Cause) -> &'static str
         Cause::Divide => "Divide",
         Cause::Break => "Break",
         Cause::BadCall => "BadCall",
-        Cause::Nest => "Nest",
         Cause::Budget => "Budget",
         Cause::Thunks => "Thunks",
     }
