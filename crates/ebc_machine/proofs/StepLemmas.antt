@@ -8,7 +8,7 @@ use Rattle.ebc_machine.specs.Operands.{bytes_of}
 use Rattle.ebc_machine.specs.Outcome.{outcome}
 use Rattle.ebc_machine.specs.Step.{Stepped, stored, ended, carried_out, plan_of, stepped}
 use Rattle.ebc_machine.specs.declared.cpu.Cpu.{Cpu}
-use Rattle.ebc_machine.specs.declared.cpu.Plan.{Plan}
+use Rattle.ebc_machine.specs.Plan.{Plan}
 use Rattle.ebc_machine.specs.declared.cpu.Request.{Request}
 use Rattle.ebc_machine.specs.declared.cpu.Request.TheVariants.{Nothing, Native, MakeThunk}
 use Rattle.ebc_machine.specs.declared.cpu.Store.{Store}

@@ -18,7 +18,7 @@ use Rattle.ebc_machine.specs.declared.arithmetic.Operation.TheVariants.{Not, Neg
 use Rattle.ebc_machine.specs.declared.arithmetic.Relation.{Relation}
 use Rattle.ebc_machine.specs.declared.arithmetic.Relation.TheVariants.{Eq, Lte, Gte, Ulte, Ugte}
 use Rattle.ebc_machine.specs.declared.cpu.Cpu.{Cpu}
-use Rattle.ebc_machine.specs.declared.cpu.Plan.{Plan}
+use Rattle.ebc_machine.specs.Plan.{Plan}
 use Rattle.ebc_machine.specs.declared.cpu.Size.{Size}
 use Rattle.ebc_machine.specs.declared.cpu.Size.TheVariants.{Byte, Word, Doubleword, Quadword}
 use Rattle.ebc_machine.specs.declared.cpu.Request.TheVariants.{Nothing, Native, MakeThunk}

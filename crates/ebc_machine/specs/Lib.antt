@@ -1,4 +1,5 @@
 pub mod Arithmetic
+pub mod Plan
 pub mod Operands
 pub mod Effects
 pub mod Outcome

@@ -11,7 +11,7 @@ use Rattle.fw_types.specs.declared.event.Cause.TheVariants.{Memory, Align}
 use Rattle.guest_memory.specs.GuestMemory.{loaded}
 use Rattle.guest_memory.specs.declared.segment.Segment.{Segment}
 use Rattle.ebc_machine.specs.declared.cpu.Cpu.{Cpu}
-use Rattle.ebc_machine.specs.declared.cpu.Plan.{Plan}
+use Rattle.ebc_machine.specs.Plan.{Plan}
 use Rattle.ebc_machine.specs.declared.cpu.Size.{Size}
 use Rattle.ebc_machine.specs.declared.cpu.Size.TheVariants.{Byte, Word, Doubleword, Quadword}
 use Rattle.ebc_machine.specs.declared.cpu.Request.{Request}

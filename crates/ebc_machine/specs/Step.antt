@@ -13,7 +13,7 @@ use Rattle.ebc_machine.specs.Effects.{planned}
 use Rattle.ebc_machine.specs.Outcome.{outcome}
 use Rattle.ebc_machine.specs.Operands.{above, bytes_of}
 use Rattle.ebc_machine.specs.declared.cpu.Cpu.{Cpu}
-use Rattle.ebc_machine.specs.declared.cpu.Plan.{Plan}
+use Rattle.ebc_machine.specs.Plan.{Plan}
 use Rattle.ebc_machine.specs.declared.cpu.Store.{Store}
 use Rattle.ebc_machine.specs.declared.cpu.StepOut.{StepOut}
 use Rattle.ebc_machine.specs.declared.cpu.StepOut.TheVariants.{Done, Trap}

@@ -71,11 +71,9 @@ pub struct Store {
     pub value: u64,
 }
 
-/// What an instruction does: the registers after it, at most one write, and what it
-/// asks for.
+/// What is left of an instruction whose registers are done: at most one write, and what it asks for.
 #[derive(Clone, Copy, Debug, PartialEq, Eq)]
-pub struct Plan {
-    pub cpu: Cpu,
+pub struct Rest {
     pub store: Option<Store>,
     pub request: Request,
 }

@@ -1,11 +1,11 @@
 ghost use Rattle.std.specs.Prelude.{◌≡◌, ◌<◌, ◌^◌, []};
 ghost use Rattle.ebc_decode.specs.Columns.{is_set, jump_32};
+ghost use Rattle.ebc_machine.specs.Plan.{told};
 ghost use Rattle.ebc_machine.specs.Effects.{is_taken, base_of, plain_target, target_of, break, jump, jump_8, call, returned};
 
-use crate::cpu::{Cpu, Plan, Request, Size, Store};
+use crate::cpu::{Cpu, Request, Rest, Size, Store};
 use crate::operands::{
-    goes_on, has_m6, has_m7, is_c, is_x_indirect, jumps, load, signed, to_memory, to_register,
-    with_register, x_of,
+    goes_on, has_m6, has_m7, is_c, is_x_indirect, jumps, load, signed, to_memory, to_register, x_of,
 };
 use ebc_decode::{Instr, natural};
 use fw_types::Cause;
@@ -15,34 +15,43 @@ use guest_memory::GuestMem;
 const VERSION: u64 = 0x1_0000;
 
 /// BREAK.
-pub fn run_break(cpu: &Cpu, instr: &Instr, next: u64) -> Result<Plan, Cause>
-    ensures { result ≡ break cpu.now [] instr.now next }
+pub fn run_break(cpu: &mut Cpu, instr: &Instr, next: u64) -> Result<Rest, Cause>
+    ensures { told cpu.new result ≡ break cpu.old [] instr.now next }
 {
     match instr.operands {
         1 => Ok(to_register(cpu, next, 7, VERSION)),
-        5 => Ok(goes_on(cpu, next, Request::MakeThunk(cpu.r[7]))),
+        5 => {
+            let place = cpu.r[7];
+            Ok(goes_on(cpu, next, Request::MakeThunk(place)))
+        }
         3 | 4 | 6 => Ok(goes_on(cpu, next, Request::Nothing)),
         _ => Err(Cause::Break),
     }
 }
 
 /// JMP with 32 or 64 bits.
-pub fn run_jump<M: GuestMem>(cpu: &Cpu, mem: &M, instr: &Instr, next: u64) -> Result<Plan, Cause>
+pub fn run_jump<M: GuestMem>(
+    cpu: &mut Cpu,
+    mem: &M,
+    instr: &Instr,
+    next: u64,
+) -> Result<Rest, Cause>
     requires { instr.now.first < 256 ^ jump_32 instr.now.mods 0 }
-    ensures { result ≡ jump cpu.now (M.segments mem.now) instr.now next }
+    ensures { told cpu.new result ≡ jump cpu.old (M.segments mem.now) instr.now next }
 {
     let conditional = instr.operands & 0x80 != 0;
     let wanted = instr.operands & 0x40 != 0;
     if is_taken(cpu, conditional, wanted) {
-        jumps(cpu, target_of(cpu, mem, instr, next)?)
+        let target = target_of(cpu, mem, instr, next)?;
+        jumps(cpu, target)
     } else {
         Ok(goes_on(cpu, next, Request::Nothing))
     }
 }
 
 /// JMP8.
-pub fn run_jump_8(cpu: &Cpu, instr: &Instr, next: u64) -> Result<Plan, Cause>
-    ensures { result ≡ jump_8 cpu.now [] instr.now next }
+pub fn run_jump_8(cpu: &mut Cpu, instr: &Instr, next: u64) -> Result<Rest, Cause>
+    ensures { told cpu.new result ≡ jump_8 cpu.old [] instr.now next }
 {
     if is_taken(cpu, has_m7(instr), has_m6(instr)) {
         let units = i64::from(instr.operands.cast_signed());
@@ -53,9 +62,14 @@ pub fn run_jump_8(cpu: &Cpu, instr: &Instr, next: u64) -> Result<Plan, Cause>
 }
 
 /// CALL.
-pub fn run_call<M: GuestMem>(cpu: &Cpu, mem: &M, instr: &Instr, next: u64) -> Result<Plan, Cause>
+pub fn run_call<M: GuestMem>(
+    cpu: &mut Cpu,
+    mem: &M,
+    instr: &Instr,
+    next: u64,
+) -> Result<Rest, Cause>
     requires { instr.now.first < 256 ^ jump_32 instr.now.mods 0 }
-    ensures { result ≡ call cpu.now (M.segments mem.now) instr.now next }
+    ensures { told cpu.new result ≡ call cpu.old (M.segments mem.now) instr.now next }
 {
     let target = target_of(cpu, mem, instr, next)?;
     if instr.operands & 0x20 != 0 {
@@ -70,15 +84,17 @@ pub fn run_call<M: GuestMem>(cpu: &Cpu, mem: &M, instr: &Instr, next: u64) -> Re
         size: Size::Quadword,
         value: next,
     };
-    Ok(to_memory(&with_register(cpu, 0, at), target, store))
+    cpu.r[0] = at;
+    Ok(to_memory(cpu, target, store))
 }
 
 /// RET.
-pub fn run_return<M: GuestMem>(cpu: &Cpu, mem: &M) -> Result<Plan, Cause>
-    ensures { result ≡ returned cpu.now (M.segments mem.now) }
+pub fn run_return<M: GuestMem>(cpu: &mut Cpu, mem: &M) -> Result<Rest, Cause>
+    ensures { told cpu.new result ≡ returned cpu.old (M.segments mem.now) }
 {
     let target = load(mem, cpu.r[0], Size::Quadword)?;
-    jumps(&with_register(cpu, 0, cpu.r[0].wrapping_add(16)), target)
+    cpu.r[0] = cpu.r[0].wrapping_add(16);
+    jumps(cpu, target)
 }
 
 /// Whether a jump is taken.

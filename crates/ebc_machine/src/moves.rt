@@ -4,12 +4,13 @@ ghost use Rattle.byteorder.specs.Endian.{twos_complement};
 ghost use Rattle.ebc_decode.specs.Columns.{on_m7, on_m6, on_bit, width};
 ghost use Rattle.ebc_decode.specs.NaturalIndex.{is_index_size, natural_value};
 ghost use Rattle.ebc_machine.specs.Operands.{bytes_of};
+ghost use Rattle.ebc_machine.specs.Plan.{told, with_rest};
 ghost use Rattle.ebc_machine.specs.Effects.{move, moved, move_signed, moved_signed, size_by, move_immediate, move_natural, move_relative, load_special, store_special, push, pushed, pop, pop_to};
 
-use crate::cpu::{Cpu, Plan, Request, Size, Store};
+use crate::cpu::{Cpu, Request, Rest, Size, Store};
 use crate::operands::{
     goes_on, has_m6, has_m7, is_x_indirect, is_y_indirect, load, move_to, signed, to_memory,
-    to_register, with_register, x_address, x_of, y_address, y_of,
+    to_register, x_address, x_of, y_address, y_of,
 };
 use ebc_decode::{Instr, natural};
 use fw_types::Cause;
@@ -18,17 +19,17 @@ use guest_memory::GuestMem;
 /// A move of `size` bytes, with indices of `index` bytes.
 #[inline(always)]
 pub fn run_move<M: GuestMem>(
-    cpu: &Cpu,
+    cpu: &mut Cpu,
     mem: &M,
     instr: &Instr,
     next: u64,
     size: Size,
     index: u8,
-) -> Result<Plan, Cause>
+) -> Result<Rest, Cause>
     requires index { IsTrue (is_index_size index) }
     requires first { instr.now.first < 256 ^ on_m7 index instr.now.mods 0 }
     requires second { instr.now.second < 256 ^ on_m6 index instr.now.mods 0 }
-    ensures { result ≡ move size index cpu.now (M.segments mem.now) instr.now next }
+    ensures { told cpu.new result ≡ move size index cpu.old (M.segments mem.now) instr.now next }
 {
     let value = moved(cpu, mem, instr, size, index)?;
     Ok(move_to(cpu, instr, next, index, size, value))
@@ -56,16 +57,16 @@ fn moved<M: GuestMem>(
 
 /// A move of 8 bytes, in which the index of a direct operand 2 is a signed number.
 pub fn run_move_signed<M: GuestMem>(
-    cpu: &Cpu,
+    cpu: &mut Cpu,
     mem: &M,
     instr: &Instr,
     next: u64,
     index: u8,
-) -> Result<Plan, Cause>
+) -> Result<Rest, Cause>
     requires index { IsTrue (is_index_size index) }
     requires first { instr.now.first < 256 ^ on_m7 index instr.now.mods 0 }
     requires second { instr.now.second < 256 ^ on_m6 index instr.now.mods 0 }
-    ensures { result ≡ move_signed index cpu.now (M.segments mem.now) instr.now next }
+    ensures { told cpu.new result ≡ move_signed index cpu.old (M.segments mem.now) instr.now next }
 {
     let value = moved_signed(cpu, mem, instr, index)?;
     Ok(move_to(cpu, instr, next, index, Size::Quadword, value))
@@ -85,10 +86,10 @@ fn moved_signed<M: GuestMem>(cpu: &Cpu, mem: &M, instr: &Instr, index: u8) -> Re
 }
 
 /// MOVI.
-pub fn run_move_immediate(cpu: &Cpu, instr: &Instr, next: u64) -> Result<Plan, Cause>
+pub fn run_move_immediate(cpu: &mut Cpu, instr: &Instr, next: u64) -> Result<Rest, Cause>
     requires first { instr.now.first < 256 ^ on_bit 6 2 0 instr.now.operands }
     requires second { instr.now.second < 256 ^ width instr.now.mods 0 }
-    ensures { result ≡ move_immediate cpu.now [] instr.now next }
+    ensures { told cpu.new result ≡ move_immediate cpu.old [] instr.now next }
 {
     let value = signed(instr.second, immediate_size(instr));
     Ok(move_to(
@@ -102,20 +103,20 @@ pub fn run_move_immediate(cpu: &Cpu, instr: &Instr, next: u64) -> Result<Plan, C
 }
 
 /// MOVIn.
-pub fn run_move_natural(cpu: &Cpu, instr: &Instr, next: u64) -> Result<Plan, Cause>
+pub fn run_move_natural(cpu: &mut Cpu, instr: &Instr, next: u64) -> Result<Rest, Cause>
     requires first { instr.now.first < 256 ^ on_bit 6 2 0 instr.now.operands }
     requires second { instr.now.second < 256 ^ width instr.now.mods 0 }
-    ensures { result ≡ move_natural cpu.now [] instr.now next }
+    ensures { told cpu.new result ≡ move_natural cpu.old [] instr.now next }
 {
     let value = natural(instr.second, immediate_size(instr));
     Ok(move_to(cpu, instr, next, 2, Size::Quadword, value.cast_unsigned()))
 }
 
 /// MOVREL.
-pub fn run_move_relative(cpu: &Cpu, instr: &Instr, next: u64) -> Result<Plan, Cause>
+pub fn run_move_relative(cpu: &mut Cpu, instr: &Instr, next: u64) -> Result<Rest, Cause>
     requires first { instr.now.first < 256 ^ on_bit 6 2 0 instr.now.operands }
     requires second { instr.now.second < 256 ^ width instr.now.mods 0 }
-    ensures { result ≡ move_relative cpu.now [] instr.now next }
+    ensures { told cpu.new result ≡ move_relative cpu.old [] instr.now next }
 {
     let by = signed(instr.second, immediate_size(instr));
     let value = next.wrapping_add_signed(by);
@@ -147,17 +148,16 @@ fn moved_size(instr: &Instr) -> Size
 }
 
 /// LOADSP.
-pub fn run_load_special(cpu: &Cpu, instr: &Instr, next: u64) -> Result<Plan, Cause>
-    ensures { result ≡ load_special cpu.now [] instr.now next }
+pub fn run_load_special(cpu: &mut Cpu, instr: &Instr, next: u64) -> Result<Rest, Cause>
+    ensures { told cpu.new result ≡ load_special cpu.old [] instr.now next }
 {
-    let mut cpu = *cpu;
     cpu.flags = cpu.r[y_of(instr)] % 4;
-    Ok(goes_on(&cpu, next, Request::Nothing))
+    Ok(goes_on(cpu, next, Request::Nothing))
 }
 
 /// STORESP.
-pub fn run_store_special(cpu: &Cpu, instr: &Instr, next: u64) -> Result<Plan, Cause>
-    ensures { result ≡ store_special cpu.now [] instr.now next }
+pub fn run_store_special(cpu: &mut Cpu, instr: &Instr, next: u64) -> Result<Rest, Cause>
+    ensures { told cpu.new result ≡ store_special cpu.old [] instr.now next }
 {
     let value = if y_of(instr) == 0 { cpu.flags } else { next };
     Ok(to_register(cpu, next, x_of(instr), value))
@@ -166,18 +166,19 @@ pub fn run_store_special(cpu: &Cpu, instr: &Instr, next: u64) -> Result<Plan, Ca
 /// PUSH and PUSHn.
 #[inline(always)]
 pub fn run_push<M: GuestMem>(
-    cpu: &Cpu,
+    cpu: &mut Cpu,
     mem: &M,
     instr: &Instr,
     next: u64,
     size: Size,
-) -> Result<Plan, Cause>
+) -> Result<Rest, Cause>
     requires { instr.now.first < 256 ^ on_m7 2 instr.now.mods 0 }
-    ensures { result ≡ push size cpu.now (M.segments mem.now) instr.now next }
+    ensures { told cpu.new result ≡ push size cpu.old (M.segments mem.now) instr.now next }
 {
     let value = pushed(cpu, mem, instr, size)?;
     let at = cpu.r[0].wrapping_sub(u64::from(size.bytes()));
-    Ok(to_memory(&with_register(cpu, 0, at), next, Store { at, size, value }))
+    cpu.r[0] = at;
+    Ok(to_memory(cpu, next, Store { at, size, value }))
 }
 
 /// The value that is pushed.
@@ -195,27 +196,27 @@ fn pushed<M: GuestMem>(cpu: &Cpu, mem: &M, instr: &Instr, size: Size) -> Result<
 /// POP and POPn, of 4 or 8 bytes.
 #[inline(always)]
 pub fn run_pop<M: GuestMem>(
-    cpu: &Cpu,
+    cpu: &mut Cpu,
     mem: &M,
     instr: &Instr,
     next: u64,
     size: Size,
-) -> Result<Plan, Cause>
+) -> Result<Rest, Cause>
     requires size { IsTrue (is_index_size (bytes_of size)) }
     requires first { instr.now.first < 256 ^ on_m7 2 instr.now.mods 0 }
-    ensures { result ≡ pop size cpu.now (M.segments mem.now) instr.now next }
+    ensures { told cpu.new result ≡ pop size cpu.old (M.segments mem.now) instr.now next }
 {
     let value = load(mem, cpu.r[0], size)?;
-    let top = cpu.r[0].wrapping_add(u64::from(size.bytes()));
-    Ok(pop_to(&with_register(cpu, 0, top), instr, next, size, value))
+    cpu.r[0] = cpu.r[0].wrapping_add(u64::from(size.bytes()));
+    Ok(pop_to(cpu, instr, next, size, value))
 }
 
 /// Operand 1 of POP takes the value.
-fn pop_to(cpu: &Cpu, instr: &Instr, next: u64, size: Size, value: u64) -> Plan
+fn pop_to(cpu: &mut Cpu, instr: &Instr, next: u64, size: Size, value: u64) -> Rest
     requires size { IsTrue (is_index_size (bytes_of size)) }
     requires first { instr.now.first < 256 ^ 2 }
     requires value { value < 256 ^ bytes_of size }
-    ensures { result ≡ pop_to size cpu.now instr.now next value }
+    ensures { with_rest cpu.new result ≡ pop_to size cpu.old instr.now next value }
 {
     if is_x_indirect(instr) {
         let at = x_address(cpu, instr, 2);

@@ -3,9 +3,10 @@ ghost use Rattle.byteorder.specs.Endian.{twos_complement};
 ghost use Rattle.ebc_decode.specs.Columns.{is_set, m6, m7};
 ghost use Rattle.ebc_decode.specs.NaturalIndex.{is_index_size};
 ghost use Rattle.guest_memory.specs.Segment.{is_access};
-ghost use Rattle.ebc_machine.specs.Operands.{bytes_of, low, x_of, y_of, is_x_indirect, is_y_indirect, is_wide, operation_size, load, x_address, y_address, operand_1, operand_2, goes_on, to_register, to_memory, result_to, move_to, jumps, is_c, flagged, with_register};
+ghost use Rattle.ebc_machine.specs.Operands.{bytes_of, low, x_of, y_of, is_x_indirect, is_y_indirect, is_wide, operation_size, load, x_address, y_address, operand_1, operand_2, goes_on, to_register, to_memory, result_to, move_to, jumps, is_c, flagged};
+ghost use Rattle.ebc_machine.specs.Plan.{told, with_rest};
 
-use crate::cpu::{Cpu, Plan, Request, Size, Store};
+use crate::cpu::{Cpu, Request, Rest, Size, Store};
 use ebc_decode::{Instr, natural};
 use fw_types::Cause;
 use guest_memory::GuestMem;
@@ -158,60 +159,40 @@ pub fn operand_2<M: GuestMem>(cpu: &Cpu, mem: &M, instr: &Instr) -> Result<u64, 
     }
 }
 
-/// The registers with one of them changed.
-pub fn with_register(cpu: &Cpu, register: usize, value: u64) -> Cpu
-    requires { register < 8 }
-    ensures { result ≡ with_register cpu.now register value }
-{
-    let mut cpu = *cpu;
-    cpu.r[register] = value;
-    cpu
-}
-
 /// The code goes on at an address, with a request.
-pub fn goes_on(cpu: &Cpu, ip: u64, request: Request) -> Plan
-    ensures { result ≡ goes_on cpu.now ip request }
+pub fn goes_on(cpu: &mut Cpu, ip: u64, request: Request) -> Rest
+    ensures { with_rest cpu.new result ≡ goes_on cpu.old ip request }
 {
-    let mut cpu = *cpu;
     cpu.ip = ip;
-    Plan {
-        cpu,
+    Rest {
         store: None,
         request,
     }
 }
 
 /// A register takes a value.
-pub fn to_register(cpu: &Cpu, next: u64, register: usize, value: u64) -> Plan
+pub fn to_register(cpu: &mut Cpu, next: u64, register: usize, value: u64) -> Rest
     requires { register < 8 }
-    ensures { result ≡ to_register cpu.now next register value }
+    ensures { with_rest cpu.new result ≡ to_register cpu.old next register value }
 {
-    let mut cpu = *cpu;
     cpu.r[register] = value;
-    cpu.ip = next;
-    Plan {
-        cpu,
-        store: None,
-        request: Request::Nothing,
-    }
+    goes_on(cpu, next, Request::Nothing)
 }
 
 /// Memory takes the lowest bytes of a value.
-pub fn to_memory(cpu: &Cpu, next: u64, store: Store) -> Plan
-    ensures { result ≡ to_memory cpu.now next store.at store.size store.value }
+pub fn to_memory(cpu: &mut Cpu, next: u64, store: Store) -> Rest
+    ensures { with_rest cpu.new result ≡ to_memory cpu.old next store.at store.size store.value }
 {
-    let mut cpu = *cpu;
     cpu.ip = next;
-    Plan {
-        cpu,
+    Rest {
         store: Some(store),
         request: Request::Nothing,
     }
 }
 
 /// Operand 1 of an operation takes its result.
-pub fn result_to(cpu: &Cpu, instr: &Instr, next: u64, value: u64) -> Plan
-    ensures { result ≡ result_to cpu.now instr.now next value }
+pub fn result_to(cpu: &mut Cpu, instr: &Instr, next: u64, value: u64) -> Rest
+    ensures { with_rest cpu.new result ≡ result_to cpu.old instr.now next value }
 {
     let register = x_of(instr);
     if is_x_indirect(instr) {
@@ -224,10 +205,10 @@ pub fn result_to(cpu: &Cpu, instr: &Instr, next: u64, value: u64) -> Plan
 }
 
 /// Operand 1 of a move, with an index of so many bytes, takes a value.
-pub fn move_to(cpu: &Cpu, instr: &Instr, next: u64, index: u8, size: Size, value: u64) -> Plan
+pub fn move_to(cpu: &mut Cpu, instr: &Instr, next: u64, index: u8, size: Size, value: u64) -> Rest
     requires size { IsTrue (is_index_size index) }
     requires fits { instr.now.first < 256 ^ index }
-    ensures { result ≡ move_to cpu.now instr.now next index size value }
+    ensures { with_rest cpu.new result ≡ move_to cpu.old instr.now next index size value }
 {
     if is_x_indirect(instr) {
         let at = x_address(cpu, instr, index);
@@ -238,8 +219,8 @@ pub fn move_to(cpu: &Cpu, instr: &Instr, next: u64, index: u8, size: Size, value
 }
 
 /// A jump. `Align` where its target is odd.
-pub fn jumps(cpu: &Cpu, target: u64) -> Result<Plan, Cause>
-    ensures { result ≡ jumps cpu.now target }
+pub fn jumps(cpu: &mut Cpu, target: u64) -> Result<Rest, Cause>
+    ensures { told cpu.new result ≡ jumps cpu.old target }
 {
     if target % 2 == 0 {
         Ok(goes_on(cpu, target, Request::Nothing))
@@ -256,15 +237,9 @@ pub fn is_c(cpu: &Cpu) -> bool
 }
 
 /// The condition flag takes the outcome of a comparison.
-pub fn flagged(cpu: &Cpu, next: u64, c: bool) -> Plan
-    ensures { result ≡ flagged cpu.now next c }
+pub fn flagged(cpu: &mut Cpu, next: u64, c: bool) -> Rest
+    ensures { with_rest cpu.new result ≡ flagged cpu.old next c }
 {
-    let mut cpu = *cpu;
     cpu.flags = cpu.flags / 2 * 2 + if c { 1 } else { 0 };
-    cpu.ip = next;
-    Plan {
-        cpu,
-        store: None,
-        request: Request::Nothing,
-    }
+    goes_on(cpu, next, Request::Nothing)
 }

@@ -4,10 +4,11 @@ ghost use Rattle.byteorder.specs.Endian.{twos_complement};
 ghost use Rattle.ebc_decode.specs.Columns.{on_bit, two_or_four};
 ghost use Rattle.ebc_machine.specs.Arithmetic.{holds, result_of};
 ghost use Rattle.ebc_machine.specs.Operands.{low, operation_size};
+ghost use Rattle.ebc_machine.specs.Plan.{told};
 ghost use Rattle.ebc_machine.specs.Effects.{compare, compared, compare_immediate, unary, binary};
 
 use crate::arithmetic::{Operation, Relation};
-use crate::cpu::{Cpu, Plan};
+use crate::cpu::{Cpu, Rest};
 use crate::operands::{
     flagged, has_m6, has_m7, is_x_indirect, load, operand_1, operand_2, operation_size, result_to,
     signed, x_address, x_of,
@@ -19,14 +20,14 @@ use guest_memory::GuestMem;
 /// CMP.
 #[inline(always)]
 pub fn run_compare<M: GuestMem>(
-    cpu: &Cpu,
+    cpu: &mut Cpu,
     mem: &M,
     instr: &Instr,
     next: u64,
     relation: Relation,
-) -> Result<Plan, Cause>
+) -> Result<Rest, Cause>
     requires { instr.now.second < 256 ^ 2 }
-    ensures { result ≡ compare relation cpu.now (M.segments mem.now) instr.now next }
+    ensures { told cpu.new result ≡ compare relation cpu.old (M.segments mem.now) instr.now next }
 {
     let b = operand_2(cpu, mem, instr)?;
     let a = cpu.r[x_of(instr)];
@@ -36,15 +37,15 @@ pub fn run_compare<M: GuestMem>(
 /// CMPI.
 #[inline(always)]
 pub fn run_compare_immediate<M: GuestMem>(
-    cpu: &Cpu,
+    cpu: &mut Cpu,
     mem: &M,
     instr: &Instr,
     next: u64,
     relation: Relation,
-) -> Result<Plan, Cause>
+) -> Result<Rest, Cause>
     requires first { instr.now.first < 256 ^ on_bit 4 2 0 instr.now.operands }
     requires second { instr.now.second < 256 ^ two_or_four instr.now.mods 0 }
-    ensures { result ≡ compare_immediate relation cpu.now (M.segments mem.now) instr.now next }
+    ensures { told cpu.new result ≡ compare_immediate relation cpu.old (M.segments mem.now) instr.now next }
 {
     let a = compared(cpu, mem, instr)?;
     let b = immediate(instr);
@@ -54,14 +55,14 @@ pub fn run_compare_immediate<M: GuestMem>(
 /// The result of an operation that takes operand 2 alone.
 #[inline(always)]
 pub fn run_unary<M: GuestMem>(
-    cpu: &Cpu,
+    cpu: &mut Cpu,
     mem: &M,
     instr: &Instr,
     next: u64,
     operation: Operation,
-) -> Result<Plan, Cause>
+) -> Result<Rest, Cause>
     requires { instr.now.second < 256 ^ 2 }
-    ensures { result ≡ unary operation cpu.now (M.segments mem.now) instr.now next }
+    ensures { told cpu.new result ≡ unary operation cpu.old (M.segments mem.now) instr.now next }
 {
     let b = operand_2(cpu, mem, instr)?;
     let value = result_of(operation, has_m6(instr), 0, b)?;
@@ -71,14 +72,14 @@ pub fn run_unary<M: GuestMem>(
 /// The result of an operation on both operands.
 #[inline(always)]
 pub fn run_binary<M: GuestMem>(
-    cpu: &Cpu,
+    cpu: &mut Cpu,
     mem: &M,
     instr: &Instr,
     next: u64,
     operation: Operation,
-) -> Result<Plan, Cause>
+) -> Result<Rest, Cause>
     requires { instr.now.second < 256 ^ 2 }
-    ensures { result ≡ binary operation cpu.now (M.segments mem.now) instr.now next }
+    ensures { told cpu.new result ≡ binary operation cpu.old (M.segments mem.now) instr.now next }
 {
     let a = operand_1(cpu, mem, instr)?;
     let b = operand_2(cpu, mem, instr)?;

@@ -1,10 +1,11 @@
 ghost use Rattle.std.specs.Prelude.{◌≡◌, IfOk, IsErr, OnErr};
 ghost use Rattle.ebc_decode.specs.Spelling.{IsInstruction};
 ghost use Rattle.ebc_machine.specs.Effects.{planned};
+ghost use Rattle.ebc_machine.specs.Plan.{told, with_rest};
 ghost use Rattle.ebc_machine.specs.Step.{stepped, ended, plan_of};
 
 use crate::arithmetic::{Operation, Relation};
-use crate::cpu::{Cpu, Plan, Size, StepOut};
+use crate::cpu::{Cpu, Rest, Size, StepOut};
 use crate::jumps::{run_break, run_call, run_jump, run_jump_8, run_return};
 use crate::moves::{
     run_load_special, run_move, run_move_immediate, run_move_natural, run_move_relative,
@@ -39,29 +40,34 @@ pub fn step<M: GuestMem>(cpu: &mut Cpu, mem: &mut M) -> Result<StepOut, OutOfMem
     if cpu.ip == EXIT {
         return Ok(StepOut::Done);
     }
-    match next_plan(cpu, mem) {
-        Ok(plan) => carry_out(cpu, mem, &plan),
+    let mut after = *cpu;
+    match next_rest(&mut after, mem) {
+        Ok(rest) => carry_out(cpu, mem, &after, &rest),
         Err(cause) => Ok(StepOut::Trap(cause)),
     }
 }
 
-/// What the instruction at IP does.
-fn next_plan<M: GuestMem>(cpu: &Cpu, mem: &M) -> Result<Plan, Cause>
-    ensures { result ≡ plan_of cpu.now (M.segments mem.now) }
+/// Does the instruction at IP on registers, and answers what is left of it. Where it traps, the registers
+/// are left half done.
+fn next_rest<M: GuestMem>(cpu: &mut Cpu, mem: &M) -> Result<Rest, Cause>
+    ensures { told cpu.new result ≡ plan_of cpu.old (M.segments mem.now) }
 {
     let mut bytes = [0u8; 18];
     let count = mem.fetch(cpu.ip, &mut bytes);
     match decode(&bytes[..count as usize]) {
-        Ok((instr, len)) => run(cpu, mem, &instr, cpu.ip.wrapping_add(u64::from(len))),
+        Ok((instr, len)) => {
+            let next = cpu.ip.wrapping_add(u64::from(len));
+            run(cpu, mem, &instr, next)
+        }
         Err(DecodeRefusal::Short) => Err(Cause::Fetch),
         Err(DecodeRefusal::Illegal) => Err(Cause::Illegal),
     }
 }
 
 /// What an instruction does, by its opcode.
-fn run<M: GuestMem>(cpu: &Cpu, mem: &M, instr: &Instr, next: u64) -> Result<Plan, Cause>
+fn run<M: GuestMem>(cpu: &mut Cpu, mem: &M, instr: &Instr, next: u64) -> Result<Rest, Cause>
     requires { IsInstruction instr.now }
-    ensures { result ≡ planned cpu.now (M.segments mem.now) instr.now next }
+    ensures { told cpu.new result ≡ planned cpu.old (M.segments mem.now) instr.now next }
 {
     match instr.op {
         0x00 => run_break(cpu, instr, next),
@@ -125,20 +131,25 @@ fn run<M: GuestMem>(cpu: &Cpu, mem: &M, instr: &Instr, next: u64) -> Result<Plan
 }
 
 /// Ends an instruction: its write, which may be refused, and then its registers.
-fn carry_out<M: GuestMem>(cpu: &mut Cpu, mem: &mut M, plan: &Plan) -> Result<StepOut, OutOfMemory>
-    ensures step { IfOk result (λ out. ended cpu.old (M.segments mem.old) plan.now plan.now.store
+fn carry_out<M: GuestMem>(
+    cpu: &mut Cpu,
+    mem: &mut M,
+    after: &Cpu,
+    rest: &Rest,
+) -> Result<StepOut, OutOfMemory>
+    ensures step { IfOk result (λ out. ended cpu.old (M.segments mem.old) (with_rest after.now rest.now) rest.now.store
         ≡ record { out = out; cpu = cpu.new; segments = M.segments mem.new }) }
     ensures rest { mem.new ≡ M.with_segments mem.old (M.segments mem.new) }
     ensures memory { IsErr result → M.may_run_out }
     ensures err { OnErr result ((cpu.new ≡ cpu.old) × (M.segments mem.new ≡ M.segments mem.old)) }
 {
-    if let Some(store) = plan.store {
+    if let Some(store) = rest.store {
         match mem.write(store.at, store.size.bytes(), store.value) {
             Ok(()) => {}
             Err(MemRefusal::OutOfMemory) => return Err(OutOfMemory),
             Err(_) => return Ok(StepOut::Trap(Cause::Memory)),
         }
     }
-    *cpu = plan.cpu;
-    Ok(plan.request.outcome())
+    *cpu = *after;
+    Ok(rest.request.outcome())
 }
