@@ -1,6 +1,6 @@
 -- How a turn goes by its step, and how a run goes on by a turn.
-use Rattle.std.proofs.Common.{◌≡◌, ◌<◌, ℕ, false, nat_eq, refl, sym, ap, subst, ◌∙◌}
-use Rattle.std.specs.Prelude.{Option, Some, None, Result, Ok, Err, IfOk}
+use Rattle.std.proofs.Common.{◌≡◌, ℕ, false, nat_eq, refl, sym, ap, ◌∙◌}
+use Rattle.std.specs.Prelude.{Option, Result, Ok, Err, IfOk}
 use Rattle.fw_types.specs.declared.event.Outcome.{Outcome}
 use Rattle.fw_types.specs.declared.memory.OutOfMemory.{OutOfMemory}
 use Rattle.ebc_machine.specs.Step.{Stepped, stepped}
@@ -9,9 +9,7 @@ use Rattle.ebc_machine.specs.declared.cpu.StepOut.{StepOut}
 use Rattle.ebc_machine.specs.declared.run.TheConstants.{EXIT}
 use Rattle.world_model.specs.World.{State, on_hard, on_soft, with_memory}
 use Rattle.world_model.specs.Units.{units_spent}
-use Rattle.driver_model.specs.Turn.{Turn}
-use Rattle.driver_model.specs.GuestRun.{acted, after_step, after_turn, run, turn}
-use Rattle.driver_model.specs.RunLaws.{GoingOnCosts, RunIsTurnAndRun}
+use Rattle.driver_model.specs.GuestRun.{acted, after_step, run, turn}
 
 -- ---- a turn that takes a step
 
@@ -34,18 +32,3 @@ module _ (level : ℕ) (cpu after : Cpu) (w paid behind : State) (out : StepOut)
       → IfOk result (λ ended. turn level cpu w ≡ record { ended = ended; cpu = last; world = end })
   taken (Ok ended) last end acts = by_step ∙ acts
   taken (Err error) last end acts = tt
-
--- ---- a run
-
-pub run_ends : RunIsTurnAndRun → (level : ℕ) (cpu after : Cpu) (w left : State) (outcome : Outcome) → turn level cpu w ≡ record { ended = Some outcome; cpu = after; world = left }
-    → run level cpu w ≡ (outcome, left)
-run_ends goes level cpu after w left outcome is = goes level cpu w ∙ ap (after_turn (run level)) is
-
-pub run_goes_on : RunIsTurnAndRun → (level : ℕ) (cpu after : Cpu) (w left : State) → turn level cpu w ≡ record { ended = None; cpu = after; world = left }
-    → run level cpu w ≡ run level after left
-run_goes_on goes level cpu after w left is = goes level cpu w ∙ ap (after_turn (run level)) is
-
-pub fewer : GoingOnCosts → (level : ℕ) (cpu after : Cpu) (w left : State) → turn level cpu w ≡ record { ended = None; cpu = after; world = left }
-    → left.hard.units < w.hard.units
-fewer costs level cpu after w left is =
-    subst (λ (t : Turn). t.world.hard.units < w.hard.units) is (costs level cpu w (ap (λ (t : Turn). t.ended) is))

@@ -134,7 +134,7 @@ fn make_call(
 /// Calls the entry point of an image (UEFI 2.8, 4.1: EFI_IMAGE_ENTRY_POINT), and answers how the call
 /// ended. With less than the price of a call left it traps at once, and no event is made. What the image's
 /// code did stays: the caller puts the soft part back where the call did not commit. No stack stands
-/// before or after.
+/// before or after, and no open mark keeps the stack of level 1.
 ///
 /// # Errors
 ///

@@ -1,9 +1,9 @@
 //! The engine that runs drivers over the world: a driver's code runs turn by turn, its native calls are
 //! served, its requests for thunks are met, and an image's entry point is called.
 //!
-//! What each function does is a definition of `driver_model`, of the same name. So a contract here says
-//! that definition's result and the state that it leaves, and that no open mark keeps anything else than
-//! before. Nothing is undone here: where a call does not commit, its caller puts the soft part back.
+//! What each function does is a definition of `driver_model`, which its contract cites. So a contract here
+//! says that definition's result and the state that it leaves, and that no open mark keeps anything else
+//! than before. Nothing is undone here: where a call does not commit, its caller puts the soft part back.
 #![tactic(auto)]
 
 mod driver_call;

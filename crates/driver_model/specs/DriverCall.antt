@@ -1,4 +1,4 @@
--- A driver call, in six rules: UEFI 2.8, 4.1 and 10.1. So far only an image's entry is called, by no
+-- A driver call: UEFI 2.8, 4.1 'UEFI Image Entry Point'. So far only an image's entry is called, by no
 -- other driver.
 use Rattle.std.specs.Prelude.{ℕ, ◌^◌, Bool, false, min, nat_le, nat_lt, not, List, [], ◌∷◌, replicate, if◌then◌else◌}
 use Rattle.fw_types.specs.declared.status.Status.{Status}

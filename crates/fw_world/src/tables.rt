@@ -8,7 +8,7 @@ use fw_types::OutOfMemory;
 use guest_memory::{Memory, SegKind};
 use service_thunks::{boot_table, system_table};
 use std::alloc::Global;
-use world_model::addresses::{BOOT_SERVICES, BUS_BINDING, FIRMWARE_IMAGE, SYSTEM_TABLE};
+use world_model::addresses::{BOOT_TABLE, BUS_BINDING, FIRMWARE_IMAGE, SYSTEM_TABLE};
 
 /// The loaded image block of the firmware, which no image loaded and which has no bytes of its own.
 const FIRMWARE: ImageInfo = ImageInfo {
@@ -27,7 +27,7 @@ pub fn tables(alloc: Global) -> Result<Memory, OutOfMemory>
     let system = Vec::from_slice(alloc, &system_table())?;
     map_free(&mut memory, SYSTEM_TABLE, system, SegKind::Table)?;
     let boot = Vec::from_slice(alloc, &boot_table())?;
-    map_free(&mut memory, BOOT_SERVICES, boot, SegKind::Table)?;
+    map_free(&mut memory, BOOT_TABLE, boot, SegKind::Table)?;
     let binding = Vec::from_slice(alloc, &binding_bytes())?;
     map_free(&mut memory, BUS_BINDING, binding, SegKind::Table)?;
     let firmware = Vec::from_slice(alloc, &block_bytes(&FIRMWARE))?;

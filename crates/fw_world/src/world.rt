@@ -90,8 +90,10 @@ impl World {
 
     /// What holds of every world: no two segments meet and each lies where its kind may, the firmware's
     /// tables are there with their bytes, the database is sound with the interfaces of the firmware and
-    /// of the bus driver, each image has its segment, its loaded image block and its interface, and the
-    /// open records are sound and name interfaces and handles that are there.
+    /// of the bus driver, each image has its segment, its loaded image block and its interface, the open
+    /// records are sound and name interfaces and handles that are there, each thunk enters an image and no
+    /// two have one number, a stack has its list of children beside it, and the next addresses and numbers
+    /// are within their ranges.
     pub fn is_kept(&self)
         ensures { IsKept self.now.now.soft }
     {
@@ -548,8 +550,8 @@ impl World {
         Cap { aside }
     }
 
-    /// Gives back the units that a cap has set aside. They fit beside those that are left, since units
-    /// are only spent while a cap stands.
+    /// Gives back the units that a cap has set aside, which fit beside those that are left: so it is for the
+    /// newest cap of a command, since units are only spent while it stands.
     pub fn uncap(&mut self, c: Cap)
         requires { self.old.now.hard.units + c < 2 ^ 64 }
         ensures now { self.new.now ≡ on_hard (units_returned c) self.old.now }

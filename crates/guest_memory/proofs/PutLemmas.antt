@@ -1,14 +1,13 @@
 -- Where bytes go that are put at an address, and what they leave as it was.
 use Rattle.std.proofs.Common.{◌≡◌, ◌<◌, ◌-◌, ◌≤◌, ℕ, ◌+◌, max, Bool, true, false, not, ◌&&◌, ◌||◌, cond, List, [], ◌∷◌, ◌++◌, length-append, take, drop, length-take, length-drop, map, filter, set, length, get_or, zero, suc, replicate, refl, ap, sym, ◌∙◌, arith}
 use Rattle.std.specs.List.{list_all, list_any, position, position_or_len}
-use Rattle.std.specs.Option.{is_some}
-use Rattle.std.specs.Prelude.{Option, Some, None}
+use Rattle.std.specs.Prelude.{Some, None}
 use Rattle.std.proofs.lemmas.Bool.{and_parts, not-true}
 use Rattle.std.proofs.lemmas.Bool.Decides.{nat_tests}
 use Rattle.std.proofs.lemmas.List.{append-nil, take-append-drop, length-replicate}
 use Rattle.std.proofs.lemmas.List.Quantifiers.{position-Some}
 use Rattle.guest_memory.specs.Segment.{has_bytes, is_writable, with_bytes, replaced, extent, end_of}
-use Rattle.guest_memory.specs.GuestMemory.{holder, is_readable, is_writable_holder, is_writable_range, bytes_in, bytes_of, put_bytes, layout, lie_from, kind_number}
+use Rattle.guest_memory.specs.GuestMemory.{holder, is_writable_holder, is_writable_range, put_bytes, lie_from}
 use Rattle.guest_memory.specs.declared.segment.Segment.{Segment}
 
 -- bytes in the place of others leave the length
@@ -169,24 +168,6 @@ parts-put_bytes P f [] at bytes test part = refl
 parts-put_bytes P f (segment ∷ segments) at bytes test part =
     parts-put_bytes-more P f segment segments at bytes (has_bytes segment at (length bytes)) refl test part (parts-put_bytes P f segments at bytes test part)
 
-map-put_bytes-more : {B : Type 0} (f : Segment → B) (segment : Segment) (segments : List Segment) (at : ℕ) (bytes : List ℕ) (has : Bool) → has_bytes segment at (length bytes) ≡ has → IgnoresBytes f
-    → map f (put_bytes segments at bytes) ≡ map f segments
-    → map f (cond has (with_bytes segment at bytes ∷ segments) (segment ∷ put_bytes segments at bytes)) ≡ map f (segment ∷ segments)
-map-put_bytes-more f segment segments at bytes true has part rest =
-    ap (λ first. first ∷ map f segments) (part segment (with_bytes segment at bytes).bytes (length-with_bytes segment at bytes has))
-map-put_bytes-more f segment segments at bytes false has part rest = ap (λ others. f segment ∷ others) rest
-
--- a part of each segment
-pub map-put_bytes : {B : Type 0} (f : Segment → B) (segments : List Segment) (at : ℕ) (bytes : List ℕ) → IgnoresBytes f → map f (put_bytes segments at bytes) ≡ map f segments
-map-put_bytes f [] at bytes part = refl
-map-put_bytes f (segment ∷ segments) at bytes part =
-    map-put_bytes-more f segment segments at bytes (has_bytes segment at (length bytes)) refl part (map-put_bytes f segments at bytes part)
-
--- where the segments lie, how long they are and of which kinds
-pub layout-put_bytes : (segments : List Segment) (at : ℕ) (bytes : List ℕ) → layout (put_bytes segments at bytes) ≡ layout segments
-layout-put_bytes segments at bytes =
-    map-put_bytes (λ (s : Segment). (s.base, length s.bytes, kind_number s.kind)) segments at bytes (λ s others same. ap (λ (size : ℕ). (s.base, size, kind_number s.kind)) same)
-
 -- ---- segments that the code may not write
 
 abbrev is_fixed : Segment → Bool
@@ -235,63 +216,4 @@ pub put_bytes-behind : (front rest : List Segment) (at : ℕ) (bytes : List ℕ)
 put_bytes-behind front rest at [] fixed can = put_bytes-none (front ++ rest) at ∙ ap (λ others. front ++ others) (sym (put_bytes-none rest at))
 put_bytes-behind front rest at (byte ∷ bytes) fixed can = behind_there front rest at (byte ∷ bytes) fixed (holder_writable (front ++ rest) at byte bytes can)
 
-keeps-more : (s : Segment) (rest : List Segment) (at : ℕ) (bytes : List ℕ) (i : ℕ) (d : Segment) (has : Bool) → is_writable_holder (cond has (Some s) (holder rest at (length bytes))) ≡ true → is_writable (get_or (s ∷ rest) i d).kind ≡ false
-    → ((j : ℕ) → is_writable_holder (holder rest at (length bytes)) ≡ true → is_writable (get_or rest j d).kind ≡ false → get_or (put_bytes rest at bytes) j d ≡ get_or rest j d)
-    → get_or (cond has (with_bytes s at bytes ∷ rest) (s ∷ put_bytes rest at bytes)) i d ≡ get_or (s ∷ rest) i d
-keeps-more s rest at bytes zero d true can fixed later = absurd (grind (arith, fixed, can))
-keeps-more s rest at bytes (suc i) d true can fixed later = refl
-keeps-more s rest at bytes zero d false can fixed later = refl
-keeps-more s rest at bytes (suc i) d false can fixed later = later i can fixed
-
-keeps_there : (segments : List Segment) (at : ℕ) (bytes : List ℕ) (d : Segment) (i : ℕ) → is_writable_holder (holder segments at (length bytes)) ≡ true → is_writable (get_or segments i d).kind ≡ false
-    → get_or (put_bytes segments at bytes) i d ≡ get_or segments i d
-keeps_there [] at bytes d i can fixed = refl
-keeps_there (s ∷ rest) at bytes d i can fixed = keeps-more s rest at bytes i d (has_bytes s at (length bytes)) can fixed (λ j there kind. keeps_there rest at bytes d j there kind)
-
--- each of them is as before at its place
-pub get_or-put_bytes_fixed : (segments : List Segment) (at : ℕ) (bytes : List ℕ) (d : Segment) (i : ℕ) → is_writable_range segments at (length bytes) ≡ true → is_writable (get_or segments i d).kind ≡ false
-    → get_or (put_bytes segments at bytes) i d ≡ get_or segments i d
-get_or-put_bytes_fixed segments at [] d i can fixed = ap (λ s. get_or s i d) (put_bytes-none segments at)
-get_or-put_bytes_fixed segments at (byte ∷ bytes) d i can fixed = keeps_there segments at (byte ∷ bytes) d i (holder_writable segments at byte bytes can) fixed
-
-apart-more : (s : Segment) (rest : List Segment) (at : ℕ) (bytes : List ℕ) (i : ℕ) (d : Segment) (has : Bool) → has_bytes s at (length bytes) ≡ has → has_bytes (get_or (s ∷ rest) i d) at (length bytes) ≡ false
-    → ((j : ℕ) → has_bytes (get_or rest j d) at (length bytes) ≡ false → get_or (put_bytes rest at bytes) j d ≡ get_or rest j d)
-    → get_or (cond has (with_bytes s at bytes ∷ rest) (s ∷ put_bytes rest at bytes)) i d ≡ get_or (s ∷ rest) i d
-apart-more s rest at bytes zero d true has without later = absurd (grind (arith, has, without))
-apart-more s rest at bytes (suc i) d true has without later = refl
-apart-more s rest at bytes zero d false has without later = refl
-apart-more s rest at bytes (suc i) d false has without later = later i without
-
--- so is each segment, below and above, that does not have the range
-pub get_or-put_bytes_without : (segments : List Segment) (at : ℕ) (bytes : List ℕ) (d : Segment) (i : ℕ) → has_bytes (get_or segments i d) at (length bytes) ≡ false
-    → get_or (put_bytes segments at bytes) i d ≡ get_or segments i d
-get_or-put_bytes_without [] at bytes d i without = refl
-get_or-put_bytes_without (s ∷ rest) at bytes d i without =
-    apart-more s rest at bytes i d (has_bytes s at (length bytes)) refl without (λ j none. get_or-put_bytes_without rest at bytes d j none)
-
 -- ---- bytes that are read
-
--- no bytes, wherever they are
-pub bytes_of-none : (segments : List Segment) (at : ℕ) → bytes_of segments at 0 ≡ []
-bytes_of-none segments at = of_holder (holder segments at 0)
-  where
-    of_holder : (found : Option Segment) → bytes_in found at 0 ≡ []
-    of_holder None = refl
-    of_holder (Some segment) = refl
-
-bytes_held-more : (s : Segment) (rest : List Segment) (at n : ℕ) (has : Bool) → has_bytes s at n ≡ has → is_some (cond has (Some s) (holder rest at n)) ≡ true
-    → (is_some (holder rest at n) ≡ true → length (bytes_of rest at n) ≡ n)
-    → length (bytes_in (cond has (Some s) (holder rest at n)) at n) ≡ n
-bytes_held-more s rest at n true has some later =
-    let inside : at - s.base + n ≤ length s.bytes = grind (arith, nat_tests, has) in
-    omega (arith, inside, length-take n (drop (at - s.base) s.bytes), length-drop (at - s.base) s.bytes)
-bytes_held-more s rest at n false has some later = later some
-
-bytes_held : (segments : List Segment) (at n : ℕ) → is_some (holder segments at n) ≡ true → length (bytes_of segments at n) ≡ n
-bytes_held [] at n some = absurd (grind (arith, some))
-bytes_held (s ∷ rest) at n some = bytes_held-more s rest at n (has_bytes s at n) refl some (λ there. bytes_held rest at n there)
-
--- as many as are asked for, where they can be read
-pub length-bytes_of : (segments : List Segment) (at n : ℕ) → is_readable segments at n ≡ true → length (bytes_of segments at n) ≡ n
-length-bytes_of segments at zero can = ap length (bytes_of-none segments at)
-length-bytes_of segments at (suc n) can = bytes_held segments at (suc n) (grind (arith, nat_tests, can))

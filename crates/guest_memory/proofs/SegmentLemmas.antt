@@ -9,10 +9,10 @@ use Rattle.std.proofs.lemmas.Bool.Decides.{nat_tests}
 use Rattle.byteorder.specs.Endian.{little_bytes}
 use Rattle.byteorder.specs.Numbers.{length-bytes_low_first}
 use Rattle.guest_memory.specs.Segment.{has_bytes, with_number, end_of, meets}
-use Rattle.guest_memory.specs.GuestMemory.{written, put_bytes, layout, lie_from, overlaps, mapped, unmapped, total_of, kind_number}
+use Rattle.guest_memory.specs.GuestMemory.{written, put_bytes, lie_from, overlaps, mapped, unmapped, total_of, kind_number}
 use Rattle.guest_memory.specs.declared.segment.Segment.{Segment}
 use Rattle.guest_memory.specs.declared.segment.SegKind.{SegKind}
-use Rattle.guest_memory.proofs.PutLemmas.{length-with_bytes, lie_from-put_bytes, layout-put_bytes}
+use Rattle.guest_memory.proofs.PutLemmas.{length-with_bytes, lie_from-put_bytes}
 pub use Rattle.guest_memory.proofs.PutLemmas.{length-replaced}
 
 -- ---- a write
@@ -53,10 +53,6 @@ lie_from-answered false segments at n value = refl
 pub length-with_number : (segment : Segment) (at n value : ℕ) → has_bytes segment at n ≡ true → length (with_number segment at n value).bytes ≡ length segment.bytes
 length-with_number segment at n value has =
     length-with_bytes segment at (little_bytes n value) (ap (has_bytes segment at) (length-bytes_low_first 0 n value) ∙ has)
-
--- a write leaves where the segments lie, how long they are and of which kinds
-pub layout-written : (segments : List Segment) (at n value : ℕ) → layout (written segments at n value) ≡ layout segments
-layout-written segments at n value = ap layout (written-as_bytes segments at n value) ∙ layout-put_bytes segments at (little_bytes n value)
 
 -- ---- unmapping
 

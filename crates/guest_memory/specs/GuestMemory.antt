@@ -1,5 +1,5 @@
 -- The memory that a driver's code sees: a list of segments, sorted by address, no two of which meet.
-use Rattle.std.specs.Prelude.{◌≡◌, ◌<◌, ℕ, ◌+◌, ◌^◌, sum_by, count_by, find, Bool, ◌&&◌, ◌||◌, false, nat_le, nat_lt, nat_eq, List, [], ◌∷◌, length, map, remove, slice_index_or, Option, Some, None, Result, Ok, Err, if◌then◌else◌}
+use Rattle.std.specs.Prelude.{◌≡◌, ◌<◌, ℕ, ◌+◌, ◌^◌, sum_by, count_by, find, Bool, ◌&&◌, ◌||◌, false, nat_le, nat_lt, nat_eq, List, [], ◌∷◌, length, remove, slice_index_or, Option, Some, None, Result, Ok, Err, if◌then◌else◌}
 use Rattle.std.specs.List.{list_any}
 use Rattle.std.specs.Option.{is_some}
 use Rattle.guest_memory.specs.Segment.{is_writable, is_image, is_block, has_bytes, number_at, bytes_at, with_bytes, with_number, code_at, end_of, meets}
@@ -173,7 +173,3 @@ abbrev pub IsPlaceOf : List Segment → ℕ → ℕ → Type 0
 IsPlaceOf segments base place =
     (place < length segments) × ((d : Segment) → beginning_at segments base ≡ Ok (slice_index_or segments place d))
     × (unmapped segments base ≡ remove segments place)
-
--- where the segments lie, how many bytes each has, and of which kind it is
-abbrev pub layout : List Segment → List (ℕ × ℕ × ℕ)
-layout segments = map (λ segment. (segment.base, length segment.bytes, kind_number segment.kind)) segments

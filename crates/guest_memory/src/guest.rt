@@ -57,7 +57,8 @@ pub trait GuestMem {
     /// Puts the lowest `n` bytes of a number at an address, the lowest first. `n` is 1, 2, 4 or 8.
     ///
     /// `NoSegment` where no one segment has all the bytes; else `ReadOnly` where it is not
-    /// writable. After a refusal the segments are as before.
+    /// writable; `OutOfMemory` only where writing to this memory may run out. After a refusal the
+    /// segments are as before.
     fn write(&mut self, at: u64, n: u8, value: u64) -> Result<(), MemRefusal>
         requires { IsTrue (is_access n) }
         ensures answer { Gives result (write_answer (segments self.old) at n) }

@@ -179,6 +179,10 @@ impl Memory {
     }
 
     /// An equal memory.
+    ///
+    /// # Errors
+    ///
+    /// `OutOfMemory` where there is no memory for it.
     pub fn copy(&self) -> Result<Memory, OutOfMemory>
         ensures { IfOk result (λ copy. copy ≡ self.now) }
     {

@@ -15,10 +15,6 @@ pub none_pass : {X : Type 0} (test : X → Bool) (d : X) (xs : List X) → ((k :
 none_pass test d [] fails = refl
 none_pass test d (x ∷ xs) fails = rw (fails 0 (omega arith)) (none_pass test d xs (λ k h. fails (suc k) (omega arith)))
 
--- an element where it passes a test changed
-abbrev pub changed : {X : Type 0} → (X → Bool) → (X → X) → X → X
-changed test f x = if test x then f x else x
-
 -- where none passes, nothing is changed and nothing left out
 pub map-changed-none : {X : Type 0} (test : X → Bool) (f : X → X) (xs : List X) → list_any test xs ≡ false → map (λ (x : X). if test x then f x else x) xs ≡ xs
 map-changed-none test f [] none = refl

@@ -3,7 +3,7 @@ use Rattle.std.proofs.Common.{◌≡◌, ◌+◌, ◌-◌, ◌<◌, ℕ, Bool, t
 use Rattle.std.specs.List.{list_any, range_with_len}
 use Rattle.service_model.specs.Many.{each}
 use Rattle.service_model.specs.declared.plan.Stop.{Stop}
-use Rattle.leaf_services.proofs.Ranges.{no_rest, rest_of}
+use Rattle.leaf_services.proofs.Ranges.{rest_of}
 
 -- a line that goes on, and one that stops
 pub each_on : (line : ℕ → Result Unit Stop) (i count : ℕ) → i < count → line i ≡ Ok tt → each line (range_with_len i (count - i)) ≡ each line (range_with_len (i + 1) (count - (i + 1)))
@@ -12,15 +12,9 @@ each_on line i count less on = rw (rest_of i count less, on) refl
 pub each_stop : (line : ℕ → Result Unit Stop) (i count : ℕ) (stop : Stop) → i < count → line i ≡ Err stop → each line (range_with_len i (count - i)) ≡ Err stop
 each_stop line i count stop less stops = rw (rest_of i count less, stops) refl
 
-pub each_end : (line : ℕ → Result Unit Stop) (count : ℕ) → each line (range_with_len count (count - count)) ≡ Ok tt
-each_end line count = rw (no_rest count) refl
-
 -- a test that fails, and one that holds
 pub any_on : (test : ℕ → Bool) (i count : ℕ) → i < count → test i ≡ false → list_any test (range_with_len i (count - i)) ≡ list_any test (range_with_len (i + 1) (count - (i + 1)))
 any_on test i count less fails = rw (rest_of i count less, fails) refl
 
 pub any_here : (test : ℕ → Bool) (i count : ℕ) → i < count → test i ≡ true → list_any test (range_with_len i (count - i)) ≡ true
 any_here test i count less holds = rw (rest_of i count less, holds) refl
-
-pub any_end : (test : ℕ → Bool) (count : ℕ) → list_any test (range_with_len count (count - count)) ≡ false
-any_end test count = rw (no_rest count) refl

@@ -4,7 +4,7 @@ use Rattle.std.specs.List.{list_any}
 use Rattle.std.proofs.lemmas.List.{append-nil, length-map, take-append-drop, length-take}
 use Rattle.std.proofs.lemmas.List.Elements.{filter-append}
 use Rattle.std.proofs.lemmas.Bool.{or_parts, or_from, not-false}
-use Rattle.std.proofs.Math.Seq.{drop-cons, take-suc}
+use Rattle.std.proofs.Math.Seq.{drop-cons}
 use Rattle.open_records.specs.OpenRecords.{Table, IsSound, clash, falls, is_before, is_behind, is_kept, is_of, records_of, rise}
 use Rattle.open_records.specs.Leaving.{cut, cut_on, is_named, swept}
 use Rattle.open_records.specs.declared.opened.Held.{Held}
@@ -73,10 +73,3 @@ module _ (held : List Held) (at : ℕ) (one : Held) (rising : rise held ≡ true
       let mine : length (records_of (take at held) one.handle one.guid) ≡ length (filter (is_of one.handle one.guid) (take at held)) = length-map (filter (is_of one.handle one.guid) (take at held)) (λ (other : Held). other.rec) in
       let before : length (filter (is_before one.handle one.guid) held) ≡ length (filter (is_before one.handle one.guid) (take at held)) = ap length before_all in
       omega (arith, counts, whole, mine, before)
-
-  -- the list from there on, with its first record
-  pub rest_at : drop at held ≡ one ∷ drop (suc at) held
-  rest_at = drop-cons held at one within ∙ ap (λ (first : Held). first ∷ drop (suc at) held) (sym here)
-
-  pub front_more : take (suc at) held ≡ take at held ++ one ∷ []
-  front_more = take-suc held at one within ∙ ap (λ (first : Held). take at held ++ first ∷ []) (sym here)

@@ -12,10 +12,6 @@ use Rattle.open_records.proofs.Lists.{filter_both}
 abbrev is_new : List ℕ → ℕ → Bool
 is_new found number = not (list_any (λ other. nat_eq other number) found)
 
-new_agree : (p q : ℕ → Bool) (xs : List ℕ) → ((x : ℕ) → p x ≡ q x) → filter p xs ≡ filter q xs
-new_agree p q [] same = refl
-new_agree p q (x ∷ xs) same = rw (same x, new_agree p q xs same) refl
-
 not_both : (a b : Bool) → (b ≡ true → a ≡ true) → not a ≡ (not b && not a)
 not_both true true implies = refl
 not_both true false implies = refl

@@ -22,11 +22,6 @@ key_order x y = interface_order x.0 x.1 y.0 y.1
 total : IsTotalOrder key_order
 total = then_total (on_total (λ (key : ℕ × List ℕ). key.0) nat_cmp_total) (on_total (λ (key : ℕ × List ℕ). key.1) nat_list_cmp_total)
 
-gt-reverse : (o : Ordering) → is_gt (ordering_reverse o) ≡ is_lt o
-gt-reverse Less = refl
-gt-reverse Equal = refl
-gt-reverse Greater = refl
-
 lt-reverse : (o : Ordering) → is_lt (ordering_reverse o) ≡ is_gt o
 lt-reverse Less = refl
 lt-reverse Equal = refl

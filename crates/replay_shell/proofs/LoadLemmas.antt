@@ -1,5 +1,5 @@
 -- A load: what placing its image leaves, and how the marked world goes on.
-use Rattle.std.proofs.Common.{◌≡◌, ◌≢◌, ℕ, ◌+◌, Bool, true, false, List, [], ◌∷◌, refl, sym, ap, subst, ◌∙◌, arith}
+use Rattle.std.proofs.Common.{◌≡◌, ℕ, ◌+◌, Bool, true, false, List, [], ◌∷◌, refl, sym, ap, subst, ◌∙◌, arith}
 use Rattle.std.specs.Prelude.{Option, Some, None, Result, Ok, Err, IfOk, nat_lt, if◌then◌else◌}
 use Rattle.fw_types.specs.declared.memory.OutOfMemory.{OutOfMemory}
 use Rattle.fw_types.specs.declared.event.Outcome.{Outcome}
@@ -13,12 +13,12 @@ use Rattle.world_model.specs.Marks.{marked, put_back, stacks}
 use Rattle.world_model.proofs.StacksStand.{adding}
 use Rattle.image_table.specs.declared.fault.PlaceFault.{PlaceFault}
 use Rattle.image_table.specs.declared.fault.PlaceFault.TheVariants as place
-use Rattle.image_table.specs.Placing.{Gives, UnlessMemory, added_unless_full, file_added, laying_price, place_answer, placed, placed_unless}
+use Rattle.image_table.specs.Placing.{added_unless_full, file_added, laying_price, place_answer, placed, placed_unless}
 use Rattle.replay_shell.specs.declared.image_life.Loading.{Loading}
 use Rattle.driver_model.specs.DriverCall.{entry_called, entry_made, kept_or_undone}
 use Rattle.driver_model.specs.Spending.{Spends}
 use Rattle.replay_shell.specs.Machine.{IsOnTrial, kept_soft}
-use Rattle.replay_shell.specs.ImageLife.{came_of, entered, fault_note, fault_status, load_by, loaded}
+use Rattle.replay_shell.specs.ImageLife.{came_of, entered, load_by, loaded}
 
 -- ---- placing
 
@@ -48,9 +48,6 @@ leaves_unless None file w = leaves_accepted file w (nat_lt w.hard.units (laying_
 pub stacks-placed : (file : List ℕ) (w : State) → stacks (placed file 0 w).soft ≡ stacks w.soft
 stacks-placed file w = (leaves_unless (refusal_of file) file w).same_stacks
 
-pub spends-placed : (file : List ℕ) (w : State) → Spends w (placed file 0 w)
-spends-placed file w = (leaves_unless (refusal_of file) file w).spends
-
 -- ---- the mark of a load
 
 kept_soft-is : (w : Held) (before : Soft) → w.kept ≡ before ∷ [] → kept_soft w ≡ before
@@ -66,33 +63,10 @@ trial_of w before marked none was_none =
       was_stackless = ap stacks same ∙ was_none;
     }
 
--- a load goes on: its mark is the same
-pub trial_still : (old new : Held) → IsOnTrial old → new.kept ≡ old.kept → stacks new.now.soft ≡ [] → IsOnTrial new
-trial_still old new trial same none = trial_of new (kept_soft old) (same ∙ trial.marked_once) none trial.was_stackless
-
 pub kept_soft-still : (old new : Held) → IsOnTrial old → new.kept ≡ old.kept → kept_soft new ≡ kept_soft old
 kept_soft-still old new trial same = kept_soft-is new (kept_soft old) (same ∙ trial.marked_once)
 
 -- ---- a load whose image is not placed
-
--- what the call promises unless memory ran out
-pub promised : (fault : PlaceFault) (fact : Type 0) → fault ≢ place.OutOfMemory → UnlessMemory (Err fault) fact → fact
-promised (place.Refused refusal) fact other holds = holds
-promised place.Units fact other holds = holds
-promised place.Full fact other holds = holds
-promised place.OutOfMemory fact other holds = absurd (other refl)
-
-answered : (fault : PlaceFault) (answer : Result ℕ PlaceFault) → fault ≢ place.OutOfMemory → Gives (Err fault) answer → answer ≡ Err fault
-answered (place.Refused refusal) answer other gives = gives
-answered place.Units answer other gives = gives
-answered place.Full answer other gives = gives
-answered place.OutOfMemory answer other gives = absurd (other refl)
-
-pub not_loaded : (fault : PlaceFault) (loading : Loading) (file : List ℕ) (w after : State) → fault ≢ place.OutOfMemory → Gives (Err fault) (place_answer file w) → UnlessMemory (Err fault) (after ≡ placed file 0 w)
-    → loading ≡ record { note = fault_note fault; status = fault_status fault } → loaded file w ≡ came_of loading after
-not_loaded fault loading file w after other answer now told =
-    let is_placed : after ≡ placed file 0 w = promised fault (after ≡ placed file 0 w) other now in
-    ap (λ (answer : Result ℕ PlaceFault). load_by answer file w) (answered fault (place_answer file w) other answer) ∙ rw (told, is_placed) refl
 
 -- ---- a load whose image is placed
 

@@ -9,17 +9,18 @@ use crate::respond::respond;
 use fw_shelf::{MemShelf, MemSink, Shelf, Sink};
 use std::alloc::Global;
 
-/// Does all that the program does: reads the words after its name, replays a script with the files
-/// of a shelf, and writes to a sink. The answer is the status with which the program ends:
+/// Does all that the program does: reads the words after its name, replays a script or lists an image
+/// with the files of a shelf, and writes to a sink. The answer is the status with which the program ends:
 ///
-/// - 0: done, and the whole report was written;
+/// - 0: done, and the whole report or listing was written;
 /// - 1: the words are of no form, and the usage line was written;
 /// - 2: the script is refused, and a line was written that tells where and why;
 /// - 3: the shelf failed, and the texts of the commands before were written;
 /// - 4: the sink failed, and a front of the text was written;
 /// - 5: memory ran out, and a front of the text was written;
-/// - 6: no file stands under the script's name, and a line says so;
-/// - 7: the script has more than 16,777,216 bytes, and a line says so.
+/// - 6: no file stands under the name of the script or the image, and a line says so;
+/// - 7: that file has more than 16,777,216 bytes, and a line says so;
+/// - 8: the image that is to be listed is refused, and a line says why.
 pub fn top<F: Shelf, K: Sink>(alloc: Global, words: &Vec<String>, shelf: &mut F, sink: &mut K) -> u8
     // The headline: where it did not give up, its status is the answer's, and what was written is,
     // byte for byte, the answer's text.

@@ -6,7 +6,7 @@ use Rattle.fw_types.specs.declared.status.Status.{Status as StatusValue}
 use Rattle.fw_types.specs.declared.status.TheConstants.Status.{INVALID_PARAMETER, NOT_FOUND}
 use Rattle.handle_db.specs.Database.{interface_of}
 use Rattle.world_model.specs.World.{State}
-use Rattle.service_model.specs.Words.{◌>>=◌, ◌>>◌, alive, dead, legal, refuse_if, there}
+use Rattle.service_model.specs.Words.{◌>>=◌, ◌>>◌, legal, refuse_if, there}
 use Rattle.service_model.specs.declared.plan.Stop.{Stop}
 use Rattle.service_model.specs.declared.plan.Stop.TheVariants.{Status}
 
@@ -58,20 +58,11 @@ under-test true sought found stop P holds is =
     subst P equal (holds refl)
 under-test false sought found stop P holds is = absurd cc
 
-but-test : {A : Type 0} → (test : Bool) (sought found : A) (stop : Stop) (P : A → Type 0) → (test ≡ false → P sought) → ◌≡◌ {A = Result A Stop} (if test then Err stop else Ok sought) (Ok found) → P found
-but-test true sought found stop P holds is = absurd cc
-but-test false sought found stop P holds is =
-    let equal : sought ≡ found = cc in
-    subst P equal (holds refl)
-
 pub is-same : (bits attr : ℕ) → legal bits ≡ Ok attr → bits ≡ attr
 is-same bits attr is = under-test (is_legal bits) bits attr (Status INVALID_PARAMETER) (λ found. bits ≡ found) (λ can. refl) is
 
 pub is-legal : (bits attr : ℕ) → legal bits ≡ Ok attr → is_legal attr ≡ true
 is-legal bits attr is = under-test (is_legal bits) bits attr (Status INVALID_PARAMETER) (λ found. is_legal found ≡ true) (λ can. can) is
-
-pub is-alive : (given handle : ℕ) (status : StatusValue) (w : State) → alive given status w ≡ Ok handle → dead handle w ≡ false
-is-alive given handle status w is = but-test (dead given w) given handle (Status status) (λ found. dead found w ≡ false) (λ lives. lives) is
 
 pub is-there : (handle : ℕ) (name : List ℕ) (found : ℕ × ℕ) (w : State) → there handle name w ≡ Ok found → interface_of handle name w.soft.database ≡ Some found
 is-there handle name found w is = by_found (interface_of handle name w.soft.database) is

@@ -101,10 +101,6 @@ none-next high (entry ∷ entries) below =
 abbrev with_one : ℕ → Interface → Entry → Entry
 with_one handle new entry = if is_handle handle entry then appended new entry else entry
 
-same-handle : (handle : ℕ) (new : Interface) (entry : Entry) (here : Bool) → is_handle handle entry ≡ here → is_handle handle (if here then appended new entry else entry) ≡ here
-same-handle handle new entry true is = is
-same-handle handle new entry false is = is
-
 list-appended : (handle : ℕ) (new : Interface) (entries : List Entry) → list_any (is_handle handle) entries ≡ true
     → interfaces_in (find (is_handle handle) (map (with_one handle new) entries)) ≡ interfaces_in (find (is_handle handle) entries) ++ new ∷ []
 list-appended handle new [] live = absurd cc

@@ -6,7 +6,7 @@ ghost use Rattle.service_thunks.specs.Services.{is_built, service_of};
 use crate::service::Service;
 
 /// The address of the first boot service.
-const BOOT_SERVICES: u64 = 0x2_0018;
+const FIRST_SERVICE: u64 = 0x2_0018;
 
 /// The address of the first function of PCI I/O.
 const PCI_IO: u64 = 0x2_1000;
@@ -85,7 +85,7 @@ const PCI: [Service; 18] = [
 pub fn service_at(at: u64) -> Option<Service>
     ensures { result ≡ service_of at }
 {
-    match placed_at(&BOOT, BOOT_SERVICES, at) {
+    match placed_at(&BOOT, FIRST_SERVICE, at) {
         Some(service) => Some(service),
         None => placed_at(&PCI, PCI_IO, at),
     }

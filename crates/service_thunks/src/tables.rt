@@ -9,7 +9,7 @@ const SYSTEM_TABLE: u64 = 0x1_0000;
 const BOOT_TABLE: u64 = 0x1_1000;
 
 /// A boot service is an address of so many bytes behind this, as its entry is behind the table's begin.
-const BOOT_SERVICES: u64 = 0x2_0000;
+const SERVICE_BASE: u64 = 0x2_0000;
 
 /// The revision of both tables: UEFI 2.8.
 const REVISION: u32 = 0x0002_0050;
@@ -58,7 +58,7 @@ fn put_services(table: &mut [u8])
 {
     for place in 0..44 {
         let offset = 24 + 8 * place;
-        put_u64(table, offset, BOOT_SERVICES + offset as u64);
+        put_u64(table, offset, SERVICE_BASE + offset as u64);
     }
 }
 

@@ -21,12 +21,6 @@ use Rattle.world_model.specs.Kept.{is_placed}
 use Rattle.world_model.proofs.Segments.{list_any-neither, list_any-none}
 use Rattle.world_model.proofs.Regions.{around_image, around_list, around_stack, before_block, meets-apart}
 
--- a segment that meets no other and ends in range overlaps none
-pub no_overlap : (segments : List Segment) (new : Segment) → end_of new ≤ 2 ^ 63 → list_any (λ (other : Segment). meets new other) segments ≡ false → overlaps segments new ≡ false
-no_overlap segments new end apart =
-    let low : nat_lt (2 ^ 63) (end_of new) ≡ false = grind (arith, nat_tests) in
-    rw (low, apart) refl
-
 -- what is mapped overlaps none
 pub free-overlap : (segments : List Segment) (new : Segment) → map_answer segments new ≡ Ok tt → overlaps segments new ≡ false
 free-overlap segments new fits = by_test (overlaps segments new) (is_full segments new.kind (length new.bytes)) fits

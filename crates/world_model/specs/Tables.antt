@@ -3,7 +3,7 @@ use Rattle.std.specs.Prelude.{ℕ, List, [], ◌∷◌, replicate, codes}
 use Rattle.guest_memory.specs.declared.segment.Segment.{Segment}
 use Rattle.guest_memory.specs.declared.segment.SegKind.TheVariants as kind
 use Rattle.service_thunks.specs.Tables.{Field, boot_table, put_all, system_table, uint32, uint64}
-use Rattle.world_model.specs.declared.addresses.TheConstants.{BOOT_SERVICES, BUS_BINDING, BUS_START, BUS_STOP, BUS_SUPPORTED, FIRMWARE_IMAGE, SYSTEM_TABLE}
+use Rattle.world_model.specs.declared.addresses.TheConstants.{BOOT_TABLE, BUS_BINDING, BUS_START, BUS_STOP, BUS_SUPPORTED, FIRMWARE_IMAGE, SYSTEM_TABLE}
 use Rattle.world_model.specs.Images.{Told, block_bytes}
 use Rattle.world_model.specs.Interfaces.{bus_driver, firmware}
 
@@ -35,7 +35,7 @@ table base bytes = record { base = base; bytes = bytes; kind = kind.Table }
 abbrev pub tables : List Segment
 tables =
     table SYSTEM_TABLE system_table
-    ∷ table BOOT_SERVICES boot_table
+    ∷ table BOOT_TABLE boot_table
     ∷ table BUS_BINDING bus_binding
     ∷ table FIRMWARE_IMAGE (block_bytes firmware_told)
     ∷ []

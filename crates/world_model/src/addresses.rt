@@ -5,7 +5,7 @@
 pub const SYSTEM_TABLE: u64 = 0x1_0000;
 
 /// The boot services (UEFI 2.8, 'EFI Boot Services Table').
-pub const BOOT_SERVICES: u64 = 0x1_1000;
+pub const BOOT_TABLE: u64 = 0x1_1000;
 
 /// The PCI bus driver's binding (UEFI 2.8, 'EFI Driver Binding Protocol').
 pub const BUS_BINDING: u64 = 0x1_3000;
