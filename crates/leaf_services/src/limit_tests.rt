@@ -5,12 +5,12 @@ ghost use Rattle.service_model.specs.BootServices.{is_boot_service};
 use crate::Served;
 use crate::order_tests::{Call, TABLE_ZERO, all_answer};
 use crate::protocol_tests::{
-    BAD, DENIED, DONE, FIRST, FULL, INVALID, LIST, NAME, NOWHERE, OTHER, SECOND, SHORT, STARTED,
-    TRAPPED, UNKNOWN, are_words, fifth, fourth, install_list, prepared, put_name,
+    BAD, DENIED, DONE, FIRST, FULL, INVALID, LIST, MISSING, NAME, NOWHERE, OTHER, SECOND, SHORT,
+    STARTED, TRAPPED, UNKNOWN, are_words, fifth, fourth, install_list, prepared, put_name,
 };
 use crate::tests::{PLACE, call, called_at};
 use fw_world::World;
-use guest_memory::GuestMem;
+use guest_memory::{GuestMem, SegKind};
 use service_thunks::Service;
 use std::process::Abort;
 use std::test::Fail;
@@ -133,7 +133,13 @@ fn most_pairs(rt: HostRuntime) -> Result<(), Fail> {
         called_at(&mut world, Service::InstallMultiple, LIST)?,
         INVALID
     );
-    // a GUID of the first 32 that can't be read answers before
+    // a handle's place that can't be written, and a GUID of the first 32 that can't be read, answer before
+    world.write(LIST, 8, TABLE_ZERO)?;
+    assert_eq!(rt;
+        called_at(&mut world, Service::InstallMultiple, LIST)?,
+        TRAPPED
+    );
+    world.write(LIST, 8, FIRST)?;
     world.write(LIST + 504, 8, BAD)?;
     assert_eq!(rt;
         called_at(&mut world, Service::InstallMultiple, LIST)?,
@@ -214,6 +220,55 @@ fn full_pool(rt: HostRuntime) -> Result<(), Fail> {
         call(&mut world, Service::OpenProtocolInformation, &none)?,
         DONE
     );
+    Ok(())
+}
+
+/// Services that make a block, where there are as many blocks as may be: not even one of no bytes has room.
+const MORE_BLOCKS: [Call; 3] = [
+    ([0, 0, 0, 0, 0, 0], INVALID),
+    ([0, 0, BAD, 0, 0, 0], TRAPPED),
+    ([0, 0, SECOND, 0, 0, 0], FULL),
+];
+
+const MORE_PROTOCOLS: [Call; 2] = [
+    ([99, FIRST, SECOND, 0, 0, 0], INVALID),
+    ([4, FIRST, SECOND, 0, 0, 0], FULL),
+];
+
+const MORE_BUFFERS: [Call; 3] = [
+    ([2, NOWHERE, 0, FIRST, SECOND, 0], MISSING),
+    ([2, NAME, 0, FIRST, SECOND, 0], FULL),
+    ([0, 0, 0, FIRST, SECOND, 0], FULL),
+];
+
+const MORE_INFORMATIONS: [Call; 3] = [
+    ([99, NAME, FIRST, SECOND, 0, 0], MISSING),
+    ([4, NOWHERE, FIRST, SECOND, 0, 0], MISSING),
+    ([4, NAME, FIRST, SECOND, 0, 0], FULL),
+];
+
+#[test]
+fn most_blocks(rt: HostRuntime) -> Result<(), Fail> {
+    let mut world = prepared(&rt)?;
+    // beside the loaded image block
+    for _ in 0..65_535 {
+        world.allot(Vec::new(rt.alloc()), SegKind::Pool)?;
+    }
+    all_answer(&rt, &mut world, Service::AllocatePool, &MORE_BLOCKS)?;
+    all_answer(
+        &rt,
+        &mut world,
+        Service::ProtocolsPerHandle,
+        &MORE_PROTOCOLS,
+    )?;
+    all_answer(&rt, &mut world, Service::LocateHandleBuffer, &MORE_BUFFERS)?;
+    all_answer(
+        &rt,
+        &mut world,
+        Service::OpenProtocolInformation,
+        &MORE_INFORMATIONS,
+    )?;
+    are_words(&rt, &world, FIRST, &[4]);
     Ok(())
 }
 
@@ -315,9 +370,10 @@ const OPENS: [Call; 16] = [
 ];
 
 /// And HandleProtocol.
-const HANDLE_PROTOCOLS: [Call; 3] = [
+const HANDLE_PROTOCOLS: [Call; 4] = [
     ([4, OTHER, 0, 0, 0, 0], INVALID),
     ([4, OTHER, BAD, 0, 0, 0], TRAPPED),
+    ([4, NOWHERE, SECOND, 0, 0, 0], UNKNOWN),
     ([4, OTHER, SECOND, 0, 0, 0], FULL),
 ];
 

@@ -5,7 +5,7 @@ ghost use Rattle.service_model.specs.BootServices.{is_boot_service};
 
 use crate::Served;
 use crate::protocol_tests::{
-    BAD, DENIED, DONE, FIRST, INVALID, LOADED, MISSING, NAME, NOWHERE, OTHER, SECOND, SMALL,
+    BAD, DENIED, DONE, FIRST, INVALID, LOADED, MISSING, NAME, NOWHERE, OTHER, SECOND, SHORT, SMALL,
     STARTED, TABLE, TRAPPED, UNKNOWN, install_list, prepared,
 };
 use crate::tests::{STACK_END, call, called_at};
@@ -350,4 +350,56 @@ fn lists(rt: HostRuntime) -> Result<(), Fail> {
         (Some(4), Some(99))
     );
     Ok(())
+}
+
+// ---- the units, the arguments, and what is wrong with them
+
+/// A service with so many arguments, the first of which lie in the last words of the stack, which are 0, and
+/// the last one behind it: units that are missing answer before that, and it answers before NULL, which all
+/// arguments together are refused for.
+fn reads_arguments(
+    rt: &impl Abort,
+    world: &mut World,
+    s: Service,
+    price: u32,
+    count: u64,
+) -> Result<(), Fail>
+    requires { is_boot_service s ≡ true }
+{
+    let all = STACK_END.wrapping_sub(count.wrapping_mul(8));
+    for (left, place, served) in [
+        (price.saturating_sub(1), all.wrapping_add(8), SHORT),
+        (price, all.wrapping_add(8), TRAPPED),
+        (price, all, INVALID),
+    ] {
+        world.begin_command(left);
+        assert_eq!(rt; called_at(world, s, place)?, served, "at {place:x}");
+    }
+    Ok(())
+}
+
+#[test]
+fn arguments(rt: HostRuntime) -> Result<(), Fail> {
+    let mut world = prepared(&rt)?;
+    for i in 0..6 {
+        world.write(STACK_END - 48 + 8 * i, 8, 0)?;
+    }
+    reads_arguments(&rt, &mut world, Service::Install, 8, 4)?;
+    reads_arguments(&rt, &mut world, Service::Uninstall, 8, 3)?;
+    reads_arguments(&rt, &mut world, Service::HandleProtocol, 8, 3)?;
+    reads_arguments(&rt, &mut world, Service::LocateHandle, 16, 5)?;
+    reads_arguments(&rt, &mut world, Service::OpenProtocol, 8, 6)?;
+    reads_arguments(&rt, &mut world, Service::CloseProtocol, 8, 4)
+}
+
+#[test]
+fn more_arguments(rt: HostRuntime) -> Result<(), Fail> {
+    let mut world = prepared(&rt)?;
+    for i in 0..5 {
+        world.write(STACK_END - 40 + 8 * i, 8, 0)?;
+    }
+    reads_arguments(&rt, &mut world, Service::OpenProtocolInformation, 16, 4)?;
+    reads_arguments(&rt, &mut world, Service::ProtocolsPerHandle, 16, 3)?;
+    reads_arguments(&rt, &mut world, Service::LocateHandleBuffer, 16, 5)?;
+    reads_arguments(&rt, &mut world, Service::LocateProtocol, 16, 3)
 }
