@@ -1,4 +1,4 @@
--- No stack stands before a call that no driver made, nor behind it.
+-- There is no stack before a call that no driver made, nor after it.
 use Rattle.std.proofs.Common.{◌≡◌, ℕ, false, nat_eq, [], length, sym, ap, ◌∙◌, arith}
 use Rattle.std.specs.Prelude.{Result, Ok, Err, IfOk, OnOk}
 use Rattle.std.specs.List.{list_any}
@@ -8,7 +8,7 @@ use Rattle.world_model.specs.World.{Soft, State}
 use Rattle.world_model.specs.Kept.{IsKept}
 use Rattle.world_model.specs.Marks.{stacks}
 use Rattle.world_model.specs.Stacks.{has_stack, stack_base}
-use Rattle.world_model.specs.Standing.{StackOfLevel}
+use Rattle.world_model.specs.StackLaws.{StackOfLevel}
 use Rattle.driver_model.specs.declared.call.Call.{Call}
 use Rattle.driver_model.specs.DriverCall.{call_made, entry_call, first_level}
 use Rattle.driver_model.specs.CallLaws.{CallKeepsStacks, CanBegin}
@@ -16,7 +16,7 @@ use Rattle.driver_model.specs.CallLaws.{CallKeepsStacks, CanBegin}
 pub no_stack : StackOfLevel → (level : ℕ) (soft : Soft) → stacks soft ≡ [] → has_stack level soft.memory ≡ false
 no_stack stack_of level soft none = stack_of soft level ∙ ap (list_any (λ (base : ℕ). nat_eq base (stack_base level))) none
 
--- an entry can be called where no stack stands
+-- an entry can be called if there is no stack
 can_begin : StackOfLevel → (image entry : ℕ) (call : Call) (w : State) → IsKept w.soft → stacks w.soft ≡ [] → call ≡ entry_call image entry → CanBegin first_level call [] w
 can_begin stack_of image entry call w kept none is = record {
   kept = kept;

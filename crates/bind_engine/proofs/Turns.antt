@@ -6,7 +6,7 @@ use Rattle.fw_types.specs.declared.memory.OutOfMemory.{OutOfMemory}
 use Rattle.ebc_machine.specs.Step.{Stepped, stepped}
 use Rattle.ebc_machine.specs.declared.cpu.Cpu.{Cpu}
 use Rattle.ebc_machine.specs.declared.cpu.StepOut.{StepOut}
-use Rattle.ebc_machine.specs.declared.run.TheConstants.{EXIT}
+use Rattle.guest_memory.specs.declared.address_map.TheConstants.{EXIT}
 use Rattle.world_model.specs.World.{State, on_hard, on_soft, with_memory}
 use Rattle.world_model.specs.Units.{units_spent}
 use Rattle.driver_model.specs.GuestRun.{acted, after_step, run, turn}
@@ -18,17 +18,17 @@ step_taken : (level : ℕ) (cpu : Cpu) (w : State) → nat_eq cpu.ip EXIT ≡ fa
 unfolding turn
 step_taken level cpu w elsewhere some = rw (elsewhere, some) refl
 
-module _ (level : ℕ) (cpu after : Cpu) (w paid behind : State) (out : StepOut) (elsewhere : nat_eq cpu.ip EXIT ≡ false) (some : nat_eq w.hard.units 0 ≡ false)
-    (pays : paid ≡ on_hard (units_spent 1) w) (step : stepped cpu paid.soft.memory ≡ record { out = out; cpu = after; segments = behind.soft.memory })
-    (rest : behind ≡ on_soft (with_memory behind.soft.memory) paid) where
-  by_step : turn level cpu w ≡ acted level cpu.ip out after behind
+module _ (level : ℕ) (cpu after : Cpu) (w paid left : State) (out : StepOut) (elsewhere : nat_eq cpu.ip EXIT ≡ false) (some : nat_eq w.hard.units 0 ≡ false)
+    (pays : paid ≡ on_hard (units_spent 1) w) (step : stepped cpu paid.soft.memory ≡ record { out = out; cpu = after; segments = left.soft.memory })
+    (rest : left ≡ on_soft (with_memory left.soft.memory) paid) where
+  by_step : turn level cpu w ≡ acted level cpu.ip out after left
   by_step =
       step_taken level cpu w elsewhere some
       ∙ ap (λ (s : Stepped). after_step level cpu.ip s (on_hard (units_spent 1) w)) (ap (λ (p : State). stepped cpu p.soft.memory) (sym pays) ∙ step)
-      ∙ ap (acted level cpu.ip out after) (sym (rest ∙ ap (on_soft (with_memory behind.soft.memory)) pays))
+      ∙ ap (acted level cpu.ip out after) (sym (rest ∙ ap (on_soft (with_memory left.soft.memory)) pays))
 
   pub taken : (result : Result (Option Outcome) OutOfMemory) (last : Cpu) (end : State)
-      → IfOk result (λ ended. acted level cpu.ip out after behind ≡ record { ended = ended; cpu = last; world = end })
+      → IfOk result (λ ended. acted level cpu.ip out after left ≡ record { ended = ended; cpu = last; world = end })
       → IfOk result (λ ended. turn level cpu w ≡ record { ended = ended; cpu = last; world = end })
   taken (Ok ended) last end acts = by_step ∙ acts
   taken (Err error) last end acts = tt

@@ -1,8 +1,8 @@
 //! Calls of drivers.
 ghost use Rattle.std.specs.Prelude.{◌≡◌, ◌<◌, ◌≤◌, [], IfOk, OnOk, false, length};
-ghost use Rattle.world_model.specs.declared.addresses.TheConstants.{MOST_LEVELS as most_levels, MOST_LISTED as most_listed};
+ghost use Rattle.fw_types.specs.declared.limits.TheConstants.{MOST_LEVELS as most_levels, MOST_LISTED as most_listed};
 ghost use Rattle.world_model.specs.Marks.{stacks};
-ghost use Rattle.world_model.specs.Stacks.{has_stack, is_kept_stack};
+ghost use Rattle.world_model.specs.Stacks.{has_stack, is_marked_stack};
 ghost use Rattle.driver_model.specs.DriverCall.{allowance, call_made, entry_call, entry_made, first_level, ran_on_stack};
 ghost use Rattle.driver_model.specs.Spending.{Spends};
 
@@ -10,16 +10,10 @@ use crate::guest_run::run_code;
 use driver_model::Call;
 use driver_model::laws::{calls_keep, calls_leave, runs_keep, runs_leave};
 use ebc_machine::Cpu;
-use fw_types::{Cause, EventKind, Handle, OutOfMemory, Outcome};
+use fw_types::{CALL_BUDGET, CALL_PRICE, Cause, EventKind, Handle, OutOfMemory, Outcome};
 use fw_world::World;
-use world_model::addresses::SYSTEM_TABLE;
+use guest_memory::address_map::SYSTEM_TABLE;
 use world_model::laws::stacks_stand;
-
-/// The most units that one driver call may spend.
-const CALL_BUDGET: u64 = 1_048_576;
-
-/// The price of a driver call.
-const CALL_PRICE: u64 = 64;
 
 /// The level of a call that no driver made.
 const FIRST_LEVEL: u8 = 1;
@@ -28,7 +22,7 @@ const FIRST_LEVEL: u8 = 1;
 fn allowance(world: &World) -> u64
     ensures { result ≡ allowance world.now.now }
 {
-    world.left().min(CALL_BUDGET)
+    world.left().min(u64::from(CALL_BUDGET))
 }
 
 /// The call of an image's entry point.
@@ -62,7 +56,7 @@ fn entry_call(image: Handle, entry: u64) -> Call
     }
 }
 
-/// Runs the code of a call on a stack that stands while it runs.
+/// Runs the code of a call on a stack of its own, which is there while it runs.
 fn run_on_stack(
     world: &mut World,
     level: u8,
@@ -73,9 +67,9 @@ fn run_on_stack(
     requires to { level ≤ most_levels }
     requires none { has_stack level world.old.now.soft.memory ≡ false }
     requires few { length children.now ≤ most_listed }
-    requires older { is_kept_stack level world.old.kept ≡ false }
+    requires older { is_marked_stack level world.old.marks ≡ false }
     ensures ran { IfOk result (λ outcome. ran_on_stack level call.now children.now world.old.now ≡ (outcome, world.new.now)) }
-    ensures kept { OnOk result (world.new.kept ≡ world.old.kept) }
+    ensures marks { OnOk result (world.new.marks ≡ world.old.marks) }
     ensures units { OnOk result (world.new.now.hard.units ≤ world.old.now.hard.units) }
     ensures events { OnOk result (world.new.now.hard.events ≡ world.old.now.hard.events) }
 {
@@ -100,7 +94,7 @@ fn run_on_stack(
 ///
 /// # Errors
 ///
-/// `OutOfMemory` where there is no memory.
+/// `OutOfMemory` if there is no memory.
 #[tactic(auto, unfolding(driver_model::specs::DriverCall::call_made))]
 fn make_call(
     world: &mut World,
@@ -113,15 +107,15 @@ fn make_call(
     requires to { level ≤ most_levels }
     requires none { has_stack level world.old.now.soft.memory ≡ false }
     requires few { length children.now ≤ most_listed }
-    requires older { is_kept_stack level world.old.kept ≡ false }
+    requires older { is_marked_stack level world.old.marks ≡ false }
     ensures made { IfOk result (λ outcome. call_made parent level call.now children.now world.old.now ≡ (outcome, world.new.now)) }
-    ensures kept { OnOk result (world.new.kept ≡ world.old.kept) }
+    ensures marks { OnOk result (world.new.marks ≡ world.old.marks) }
 {
     if allowance(world) < CALL_PRICE {
         return Ok(Outcome::Trapped(Cause::Budget));
     }
     let tpl = world.tpl();
-    let cap = world.cap(CALL_BUDGET);
+    let cap = world.cap(u64::from(CALL_BUDGET));
     world.spend(CALL_PRICE);
     let serial = world.begin_event(parent, call.kind, call.driver, call.controller, call.extra)?;
     let outcome = run_on_stack(world, level, call, children)?;
@@ -133,17 +127,17 @@ fn make_call(
 
 /// Calls the entry point of an image (UEFI 2.8, 4.1: EFI_IMAGE_ENTRY_POINT), and answers how the call
 /// ended. With less than the price of a call left it traps at once, and no event is made. What the image's
-/// code did stays: the caller puts the soft part back where the call did not commit. No stack stands
-/// before or after, and no open mark keeps the stack of level 1.
+/// code did stays: the caller puts the soft part back if the call did not commit. There is no stack before
+/// or after, and no open mark keeps the stack of level 1.
 ///
 /// # Errors
 ///
-/// `OutOfMemory` where there is no memory.
+/// `OutOfMemory` if there is no memory.
 pub fn call_entry(world: &mut World, image: Handle, entry: u64) -> Result<Outcome, OutOfMemory>
     requires none { stacks world.old.now.soft ≡ [] }
-    requires older { is_kept_stack first_level world.old.kept ≡ false }
+    requires older { is_marked_stack first_level world.old.marks ≡ false }
     ensures made { IfOk result (λ outcome. entry_made image entry world.old.now ≡ (outcome, world.new.now)) }
-    ensures kept { OnOk result (world.new.kept ≡ world.old.kept) }
+    ensures marks { OnOk result (world.new.marks ≡ world.old.marks) }
     ensures none { OnOk result (stacks world.new.now.soft ≡ []) }
     ensures spends { OnOk result (Spends world.old.now world.new.now) }
 {

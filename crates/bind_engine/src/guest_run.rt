@@ -7,9 +7,10 @@ ghost use Rattle.driver_model.specs.GuestRun.{acted, answer, run, turn};
 use crate::native_call::call_native;
 use crate::thunk_request::meet_request;
 use driver_model::laws::runs_go_on;
-use ebc_machine::{Cpu, EXIT, StepOut, step};
+use ebc_machine::{Cpu, StepOut, step};
 use fw_types::{Cause, OutOfMemory, Outcome, Status};
 use fw_world::World;
+use guest_memory::address_map::EXIT;
 
 /// The value of a run that is done.
 #[inline]
@@ -25,12 +26,12 @@ fn take_step(cpu: &mut Cpu, world: &mut World) -> Result<StepOut, OutOfMemory>
     ensures step { IfOk result (λ out. stepped cpu.old world.old.now.soft.memory
         ≡ record { out = out; cpu = cpu.new; segments = world.new.now.soft.memory }) }
     ensures now { world.new.now ≡ on_soft (with_memory world.new.now.soft.memory) world.old.now }
-    ensures kept { world.new.kept ≡ world.old.kept }
+    ensures marks { world.new.marks ≡ world.old.marks }
 {
     step(cpu, world)
 }
 
-/// Does what an instruction asks for that stood at `at`. The answer is how the run ends with it, if it
+/// Does what the instruction at `at` asks for. The answer is how the run ends with it, if it
 /// does.
 #[inline]
 fn act(
@@ -42,7 +43,7 @@ fn act(
 ) -> Result<Option<Outcome>, OutOfMemory>
     ensures turn { IfOk result (λ ended. acted level at out cpu.old world.old.now
         ≡ record { ended = ended; cpu = cpu.new; world = world.new.now }) }
-    ensures kept { OnOk result (world.new.kept ≡ world.old.kept) }
+    ensures marks { OnOk result (world.new.marks ≡ world.old.marks) }
 {
     match out {
         StepOut::Next => Ok(None),
@@ -60,7 +61,7 @@ fn act(
 fn take_turn(world: &mut World, level: u8, cpu: &mut Cpu) -> Result<Option<Outcome>, OutOfMemory>
     ensures turn { IfOk result (λ ended. turn level cpu.old world.old.now
         ≡ record { ended = ended; cpu = cpu.new; world = world.new.now }) }
-    ensures kept { OnOk result (world.new.kept ≡ world.old.kept) }
+    ensures marks { OnOk result (world.new.marks ≡ world.old.marks) }
 {
     if cpu.ip == EXIT {
         return Ok(Some(answer(cpu)));
@@ -78,10 +79,10 @@ fn take_turn(world: &mut World, level: u8, cpu: &mut Cpu) -> Result<Option<Outco
 ///
 /// # Errors
 ///
-/// `OutOfMemory` where there is no memory.
+/// `OutOfMemory` if there is no memory.
 pub fn run_code(world: &mut World, level: u8, start: Cpu) -> Result<Outcome, OutOfMemory>
     ensures run { IfOk result (λ outcome. run level start world.old.now ≡ (outcome, world.new.now)) }
-    ensures kept { OnOk result (world.new.kept ≡ world.old.kept) }
+    ensures marks { OnOk result (world.new.marks ≡ world.old.marks) }
 {
     runs_go_on();
     let mut cpu = start;

@@ -3,7 +3,7 @@
 //!
 //! What each function does is a definition of `driver_model`, which its contract cites. So a contract here
 //! says that definition's result and the state that it leaves, and that no open mark keeps anything else
-//! than before. Nothing is undone here: where a call does not commit, its caller puts the soft part back.
+//! than before. Nothing is undone here: if a call does not commit, its caller puts the soft part back.
 #![tactic(auto)]
 
 mod driver_call;

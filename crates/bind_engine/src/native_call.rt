@@ -4,16 +4,15 @@ ghost use Rattle.world_model.specs.Images.{image_at};
 ghost use Rattle.service_model.specs.BootServices.{is_boot_service, served};
 ghost use Rattle.driver_model.specs.NativeCalls.{available, callee as callee_value, caller, is_bus_function, native_called, returned};
 
-use driver_model::native::BUS_GET_DRIVER;
 use ebc_machine::Cpu;
 use fw_types::{Cause, Handle, OutOfMemory, Outcome};
 use fw_world::World;
+use guest_memory::address_map::{BUS_GET_DRIVER, BUS_START, BUS_STOP, BUS_SUPPORTED};
 use leaf_services::serve;
 use service_model::{Caller, Served};
 use service_thunks::{Service, service_at};
-use world_model::addresses::{BUS_START, BUS_STOP, BUS_SUPPORTED};
 
-/// Whether a function of the bus driver stands at an address.
+/// Whether a function of the bus driver is at an address.
 fn is_bus_function(at: u64) -> bool
     ensures { result ≡ is_bus_function at }
 {
@@ -35,7 +34,7 @@ fn available(service: Service) -> Service
     }
 }
 
-/// What stands at the target of a native call.
+/// What is at the target of a native call.
 #[tactic(auto, unfolding(driver_model::specs::NativeCalls::callee))]
 fn callee(target: u64) -> Option<Service>
     ensures value { result ≡ callee_value target }
@@ -48,8 +47,8 @@ fn callee(target: u64) -> Option<Service>
     }
 }
 
-/// Serves a call of an image's code at a level. Its value goes to R7; the answer is how the run ends
-/// where the service traps.
+/// Serves a call of an image's code at a level. Its value goes to R7; the answer is how the run ends if the
+/// service traps.
 fn serve_caller(
     world: &mut World,
     service: Service,
@@ -60,7 +59,7 @@ fn serve_caller(
     requires { is_boot_service service ≡ true }
     ensures turn { IfOk result (λ ended. returned cpu.old (served service (caller image level cpu.old) world.old.now)
         ≡ record { ended = ended; cpu = cpu.new; world = world.new.now }) }
-    ensures kept { OnOk result (world.new.kept ≡ world.old.kept) }
+    ensures marks { OnOk result (world.new.marks ≡ world.old.marks) }
 {
     let caller = Caller {
         image,
@@ -73,16 +72,18 @@ fn serve_caller(
             Ok(None)
         }
         Served::Trap(cause) => Ok(Some(Outcome::Trapped(cause))),
+        // no service that is built goes on, as `serve` says
+        Served::Again(_) => unreachable!(),
     }
 }
 
-/// A native call of the code that stood at `at` (UEFI 2.8, chapter 22, 'CALL'). The answer is how the
-/// run ends with it, if it does: for `BadCall` where no function of the firmware stands at the target,
-/// for `Fetch` where the code is no image's, or for the trap of the service.
+/// A native call by the code at `at` (UEFI 2.8, chapter 22, 'CALL'). The answer is how the run ends with
+/// it, if it does: for `BadCall` if no function of the firmware is at the target, for `Fetch` if the code is
+/// no image's, or for the trap of the service.
 ///
 /// # Errors
 ///
-/// `OutOfMemory` where there is no memory.
+/// `OutOfMemory` if there is no memory.
 pub fn call_native(
     world: &mut World,
     level: u8,
@@ -92,7 +93,7 @@ pub fn call_native(
 ) -> Result<Option<Outcome>, OutOfMemory>
     ensures turn { IfOk result (λ ended. native_called (callee_value target) (image_at at world.old.now.soft) level cpu.old world.old.now
         ≡ record { ended = ended; cpu = cpu.new; world = world.new.now }) }
-    ensures kept { OnOk result (world.new.kept ≡ world.old.kept) }
+    ensures marks { OnOk result (world.new.marks ≡ world.old.marks) }
 {
     let Some(service) = callee(target) else {
         return Ok(Some(Outcome::Trapped(Cause::BadCall)));

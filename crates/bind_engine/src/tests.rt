@@ -26,7 +26,7 @@ fn image() -> Handle {
 /// A world with so many units and one image, which is this code and 0 up to 72 bytes.
 fn world_with(rt: &impl AllocGlobal, code: &[u8], units: u32) -> Result<World, Fail>
     ensures stacks { IfOk result (λ world. stacks world.now.soft ≡ []) }
-    ensures kept { IfOk result (λ world. world.kept ≡ []) }
+    ensures marks { IfOk result (λ world. world.marks ≡ []) }
 {
     stacks_stand();
     let mut world = World::new(rt.alloc())?;
@@ -36,7 +36,7 @@ fn world_with(rt: &impl AllocGlobal, code: &[u8], units: u32) -> Result<World, F
     Ok(world)
 }
 
-/// Code and 0 behind it, 72 bytes and more.
+/// Code and 0 after it, 72 bytes and more.
 fn padded(alloc: Global, code: &[u8]) -> Result<Vec<u8>, AllocError>
     ensures { IfOk result (λ bytes. 0 < length bytes.items) }
 {
@@ -49,9 +49,9 @@ fn padded(alloc: Global, code: &[u8]) -> Result<Vec<u8>, AllocError>
 /// The call of the first image's entry.
 fn enter(world: &mut World) -> Result<Outcome, Fail>
     requires stacks { stacks world.old.now.soft ≡ [] }
-    requires kept { world.old.kept ≡ [] }
+    requires marks { world.old.marks ≡ [] }
     ensures stacks { OnOk result (stacks world.new.now.soft ≡ []) }
-    ensures kept { OnOk result (world.new.kept ≡ []) }
+    ensures marks { OnOk result (world.new.marks ≡ []) }
 {
     Ok(call_entry(world, image(), ENTRY)?)
 }
@@ -139,7 +139,7 @@ fn asking(offset: [u8; 4]) -> [u8; 68] {
     code
 }
 
-/// What stands at the place counts from the address behind it.
+/// The number at the place counts from the address after it.
 #[test]
 fn thunk_requests(rt: HostRuntime) -> Result<(), Fail> {
     let offsets: [([u8; 4], Outcome); 5] = [
@@ -147,7 +147,7 @@ fn thunk_requests(rt: HostRuntime) -> Result<(), Fail> {
         ([0xbc, 0xff, 0xff, 0xff], value(PLACE)),
         // one address further, which is odd
         ([0xbd, 0xff, 0xff, 0xff], trap(Cause::Align)),
-        // the last byte of the image but one, and the first behind it
+        // the last byte of the image but one, and the first after it
         ([2, 0, 0, 0], value(PLACE)),
         ([4, 0, 0, 0], trap(Cause::Fetch)),
         // the number is signed
@@ -218,9 +218,9 @@ fn thunk_called(rt: HostRuntime) -> Result<(), Fail> {
 /// Makes thunks until all numbers are handed out.
 fn make_all(world: &mut World) -> Result<(), Fail>
     requires stacks { stacks world.old.now.soft ≡ [] }
-    requires kept { world.old.kept ≡ [] }
+    requires marks { world.old.marks ≡ [] }
     ensures stacks { OnOk result (stacks world.new.now.soft ≡ []) }
-    ensures kept { OnOk result (world.new.kept ≡ []) }
+    ensures marks { OnOk result (world.new.marks ≡ []) }
 {
     'numbers: for _ in 0..65_536 {
         if world.image_at(ENTRY).is_some() {
@@ -241,7 +241,7 @@ fn thunk_numbers(rt: HostRuntime) -> Result<(), Fail> {
     Ok(())
 }
 
-/// The task priority level is raised while the call lasts, and is as before behind it.
+/// The task priority level is raised while the call lasts, and is as before after it.
 #[test]
 fn task_priority_level(rt: HostRuntime) -> Result<(), Fail> {
     // MOVIqw R7, 16; PUSH64 R7; CALL RaiseTPL; MOVIqw R7, 20; PUSH64 R7; CALL RaiseTPL; POP64 R6 twice;
@@ -271,7 +271,7 @@ fn prices(rt: HostRuntime) -> Result<(), Fail> {
     let mut enough = world_with(&rt, &RET, 65)?;
     assert_eq!(rt; enter(&mut enough)?, value(0));
     assert_eq!(rt; enough.left(), 0);
-    let told = Event {
+    let event = Event {
         serial: 1,
         parent: 0,
         kind: EventKind::Entry,
@@ -280,7 +280,7 @@ fn prices(rt: HostRuntime) -> Result<(), Fail> {
         extra: 0,
         result: value(0),
     };
-    assert_eq!(rt; enough.take_events().as_slice(), [told].as_slice());
+    assert_eq!(rt; enough.take_events().as_slice(), [event].as_slice());
     Ok(())
 }
 

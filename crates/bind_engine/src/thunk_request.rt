@@ -10,7 +10,7 @@ use fw_types::{Cause, OutOfMemory, Outcome};
 use fw_world::{World, WorldFault};
 use guest_memory::GuestMem;
 
-/// The entry that 4 signed bytes name, which stand at a place and count from behind them.
+/// The entry that the 4 signed bytes at a place name. They count from the address after them.
 fn entry_from(place: u64, number: u64) -> u64
     requires { number < 256 ^ 4 }
     ensures { result ≡ entry_from place number }
@@ -19,9 +19,9 @@ fn entry_from(place: u64, number: u64) -> u64
     place.wrapping_add(4).wrapping_add_signed(signed)
 }
 
-/// The entry that stands at a place, where the 8 bytes there can be written; or why the code traps:
-/// `Memory` where the 4 bytes can't be read or the 8 can't be written, `Align` where the entry is odd, or
-/// `Fetch` where it lies in no image.
+/// The entry that is given at a place whose 8 bytes can be written; or why the code traps: `Memory` if the
+/// 4 bytes can't be read or the 8 can't be written, `Align` if the entry is odd, or `Fetch` if it lies in no
+/// image.
 fn wanted_entry(world: &World, place: u64) -> Result<u64, Cause>
     ensures value { result ≡ wanted_entry place world.now.now.soft }
     ensures place { IfOk result (λ entry. is_writable_range world.now.now.soft.memory place 8 ≡ true) }
@@ -49,7 +49,7 @@ fn store_thunk(world: &mut World, place: u64, entry: u64) -> Result<Option<Outco
     requires image { is_some (image_at entry world.old.now.soft) ≡ true }
     ensures turn { (cpu : Cpu) → IfOk result (λ ended. thunk_by (thunk_answer world.old.now.soft) place entry cpu world.old.now
         ≡ record { ended = ended; cpu = cpu; world = world.new.now }) }
-    ensures kept { OnOk result (world.new.kept ≡ world.old.kept) }
+    ensures marks { OnOk result (world.new.marks ≡ world.old.marks) }
 {
     match world.make_thunk(entry) {
         Ok(at) => {
@@ -61,17 +61,17 @@ fn store_thunk(world: &mut World, place: u64, entry: u64) -> Result<Option<Outco
     }
 }
 
-/// Makes the thunk that the code asks for by what stands at a place (UEFI 2.8, chapter 22, 'BREAK',
+/// Makes the thunk that the code asks for by the bytes at a place (UEFI 2.8, chapter 22, 'BREAK',
 /// code 5). The answer is how the run ends with it, if it does: for `Memory`, `Align`, `Fetch` or
 /// `Thunks`, which are met in this order. The registers stay.
 ///
 /// # Errors
 ///
-/// `OutOfMemory` where there is no memory.
+/// `OutOfMemory` if there is no memory.
 pub fn meet_request(world: &mut World, place: u64) -> Result<Option<Outcome>, OutOfMemory>
     ensures turn { (cpu : Cpu) → IfOk result (λ ended. thunk_wanted place cpu world.old.now
         ≡ record { ended = ended; cpu = cpu; world = world.new.now }) }
-    ensures kept { OnOk result (world.new.kept ≡ world.old.kept) }
+    ensures marks { OnOk result (world.new.marks ≡ world.old.marks) }
 {
     match wanted_entry(world, place) {
         Ok(entry) => store_thunk(world, place, entry),

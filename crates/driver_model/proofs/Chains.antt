@@ -6,11 +6,11 @@ use Rattle.byteorder.specs.Numbers.{length-bytes_low_first}
 use Rattle.guest_memory.specs.declared.segment.Segment.{Segment}
 use Rattle.guest_memory.specs.GuestMemory.{is_writable_range}
 use Rattle.world_model.specs.World.{State, with_memory}
-use Rattle.world_model.specs.Fixed.{PuttingKeepsFixed, WritingKeepsFixed, fixed}
+use Rattle.world_model.specs.Fixed.{PuttingKeepsFixed, WritingKeepsFixed, fixed_segments}
 use Rattle.world_model.specs.Keeping.{MakingKeeps, PuttingKeeps, WritingKeeps}
 use Rattle.world_model.specs.Kept.{IsKept}
 use Rattle.world_model.specs.Marks.{stacks}
-use Rattle.world_model.specs.Standing.{PuttingKeepsStacks, WritingKeepsStacks}
+use Rattle.world_model.specs.StackLaws.{PuttingKeepsStacks, WritingKeepsStacks}
 use Rattle.world_model.specs.Thunks.{thunk_answer, thunk_made}
 use Rattle.service_model.specs.Untouched.{EventsStay, FixedStay, KeptStays, StacksStay, UnitsNeverRise}
 use Rattle.driver_model.specs.ThunkRequests.{wanted_entry}
@@ -98,12 +98,12 @@ stands-change writing putting serving u v (serves s c w boot) kept = serving s c
 stands-change writing putting serving u v (makes place entry at w wants is) kept = putting (thunk_made entry w.soft) place (little_bytes 8 at)
 
 abbrev Fixes : State → State → Type 0
-Fixes u v = fixed v.soft.memory ≡ fixed u.soft.memory
+Fixes u v = fixed_segments v.soft.memory ≡ fixed_segments u.soft.memory
 
 fixes-change : WritingKeepsFixed → PuttingKeepsFixed → FixedStay → (u v : State) → Change u v → IsKept u.soft → Fixes u v
 fixes-change writing putting serving u v (pays w) kept = refl
 fixes-change writing putting serving u v (steps cpu w) kept =
-    step-by (λ (segments : List Segment). fixed segments ≡ fixed w.soft.memory) cpu w.soft.memory refl (λ at n value done. writing w.soft.memory at n value done)
+    step-by (λ (segments : List Segment). fixed_segments segments ≡ fixed_segments w.soft.memory) cpu w.soft.memory refl (λ at n value done. writing w.soft.memory at n value done)
 fixes-change writing putting serving u v (serves s c w boot) kept = serving s c w kept
 fixes-change writing putting serving u v (makes place entry at w wants is) kept = putting w.soft.memory place (little_bytes 8 at) (can-store place entry at w wants)
 
@@ -113,6 +113,6 @@ stands writing putting serving w p m k chain =
     kept-along Stands (λ w. refl) (λ u v w one two. two ∙ one) (stands-change writing putting serving) (keeps-change w p m k) chain
 
 pub fixes : WritingKeepsFixed → PuttingKeepsFixed → FixedStay → WritingKeeps → PuttingKeeps → MakingKeeps → KeptStays
-    → {u v : State} → Chain u v → IsKept u.soft → fixed v.soft.memory ≡ fixed u.soft.memory
+    → {u v : State} → Chain u v → IsKept u.soft → fixed_segments v.soft.memory ≡ fixed_segments u.soft.memory
 fixes writing putting serving w p m k chain =
     kept-along Fixes (λ w. refl) (λ u v w one two. two ∙ one) (fixes-change writing putting serving) (keeps-change w p m k) chain

@@ -1,4 +1,4 @@
--- An event is added behind the others and ends there.
+-- An event is added after the others and ends there.
 use Rattle.std.proofs.Common.{◌≡◌, ◌≤◌, ℕ, ◌+◌, true, false, nat_eq, List, [], ◌∷◌, ◌++◌, length, map, refl, ap, ◌∙◌, arith, length-append}
 use Rattle.std.proofs.lemmas.Bool.{and_parts}
 use Rattle.std.proofs.lemmas.Bool.Decides.{nat_tests}
@@ -15,9 +15,9 @@ others number serial outcome (event ∷ events) numbered low =
     let other : nat_eq event.serial serial ≡ false = grind (arith, nat_tests, parts.0) in
     rw other (ap (λ more. event ∷ more) (others (number + 1) serial outcome events parts.1 (omega arith)))
 
-map-behind : (f : Event → Event) (events : List Event) (last : Event) → map f (events ++ last ∷ []) ≡ map f events ++ f last ∷ []
-map-behind f [] last = refl
-map-behind f (event ∷ events) last = ap (λ more. f event ∷ more) (map-behind f events last)
+map-after : (f : Event → Event) (events : List Event) (last : Event) → map f (events ++ last ∷ []) ≡ map f events ++ f last ∷ []
+map-after f [] last = refl
+map-after f (event ∷ events) last = ap (λ more. f event ∷ more) (map-after f events last)
 
 -- and the last ends
 pub ends-last : (serial : ℕ) (outcome : Outcome) (events : List Event) (last : Event) → are_numbered 1 events ≡ true → serial ≡ length events + 1 → last.serial ≡ serial
@@ -25,7 +25,7 @@ pub ends-last : (serial : ℕ) (outcome : Outcome) (events : List Event) (last :
 ends-last serial outcome events last numbered next is =
     let this : nat_eq last.serial serial ≡ true = grind (arith, nat_tests) in
     let same : with_result serial outcome last ≡ record last { result = outcome } = rw this refl in
-    map-behind (with_result serial outcome) events last
+    map-after (with_result serial outcome) events last
     ∙ ap (λ front. front ++ with_result serial outcome last ∷ []) (others 1 serial outcome events numbered (omega arith))
     ∙ ap (λ end. events ++ end ∷ []) same
 

@@ -12,7 +12,7 @@ use Rattle.driver_model.specs.GuestRun.{after_turn, run, turn, turns, unless_end
 use Rattle.driver_model.proofs.Turns.{chain-step, turn-by}
 use Rattle.driver_model.proofs.Chains.{falls}
 
--- a turn behind which the run goes on leaves fewer units
+-- a turn after which the run goes on leaves fewer units
 pub costs : UnitsNeverRise → (level : ℕ) (cpu : Cpu) (w : State) → (turn level cpu w).ended ≡ None → (turn level cpu w).world.hard.units < w.hard.units
 costs units level cpu w =
     turn-by (λ (t : Turn). t.ended ≡ None → t.world.hard.units < w.hard.units) level cpu w (λ over. absurd cc) (λ over. absurd cc)
@@ -21,7 +21,7 @@ costs units level cpu w =
     less : {left : ℕ} → nat_eq w.hard.units 0 ≡ false → left ≤ w.hard.units - 1 → left < w.hard.units
     less some falls = grind (arith, nat_tests)
 
--- two ways to go on that agree where fewer units are left
+-- two ways to go on that agree if fewer units are left
 agree-by : (ended : Option Outcome) (go other : Cpu → State → Outcome × State) (cpu : Cpu) (w : State) → (ended ≡ None → go cpu w ≡ other cpu w)
     → unless_ended ended go cpu w ≡ unless_ended ended other cpu w
 agree-by None go other cpu w same = same refl

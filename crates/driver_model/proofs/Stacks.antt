@@ -8,11 +8,12 @@ use Rattle.guest_memory.specs.declared.segment.SegKind.{SegKind}
 use Rattle.guest_memory.specs.declared.segment.SegKind.TheVariants.{Image, Pool, Firmware, Stack, Table}
 use Rattle.guest_memory.specs.Segment.{end_of, is_writable}
 use Rattle.guest_memory.specs.GuestMemory.{is_of, kind_number, lie_from, mapped, unmapped}
-use Rattle.world_model.specs.declared.addresses.TheConstants.{CHILD_LISTS, LIST_ROOM, MOST_LEVELS, MOST_LISTED, SYSTEM_TABLE, TABLES_END}
+use Rattle.fw_types.specs.declared.limits.TheConstants.{MOST_LEVELS, MOST_LISTED}
+use Rattle.guest_memory.specs.declared.address_map.TheConstants.{CHILD_LISTS, LIST_ROOM, SYSTEM_TABLE, TABLES_END}
 use Rattle.world_model.specs.World.{Soft}
-use Rattle.world_model.specs.Fixed.{MappingKeepsFixed, UnmappingKeepsFixed, fixed}
+use Rattle.world_model.specs.Fixed.{MappingKeepsFixed, UnmappingKeepsFixed, fixed_segments}
 use Rattle.world_model.specs.Keeping.{PushingKeeps}
-use Rattle.world_model.specs.Kept.{IsKept, is_of_level, is_placed, lies_right}
+use Rattle.world_model.specs.Kept.{IsKept, is_of_level, is_placed, is_in_region}
 use Rattle.world_model.specs.Stacks.{has_list, has_stack, list_base, list_segment, stack_base, stack_popped, stack_pushed, stack_segment}
 
 -- ---- segments in order
@@ -60,19 +61,19 @@ unmapped-none base (s ∷ rest) all =
 
 elsewhere : (base next_image next_block : ℕ) (begun : Segment → Bool) (segments : List Segment)
     → ((s : Segment) → is_placed next_image next_block s ≡ true → begun s ≡ false → is_writable s.kind ≡ false → not (nat_eq s.base base) ≡ true)
-    → list_all (is_placed next_image next_block) segments ≡ true → list_any begun segments ≡ false → Elsewhere base (fixed segments)
+    → list_all (is_placed next_image next_block) segments ≡ true → list_any begun segments ≡ false → Elsewhere base (fixed_segments segments)
 elsewhere base next_image next_block begun [] none placed absent = refl
 elsewhere base next_image next_block begun (s ∷ rest) none placed absent =
     let parts = and_parts (is_placed next_image next_block s) (list_all (is_placed next_image next_block) rest) placed in
     let absents = or_parts (begun s) (list_any begun rest) absent in
     by_head (is_writable s.kind) refl parts.0 absents.0 (elsewhere base next_image next_block begun rest none parts.1 absents.1)
   where
-    by_head : (writable : Bool) → is_writable s.kind ≡ writable → is_placed next_image next_block s ≡ true → begun s ≡ false → Elsewhere base (fixed rest)
+    by_head : (writable : Bool) → is_writable s.kind ≡ writable → is_placed next_image next_block s ≡ true → begun s ≡ false → Elsewhere base (fixed_segments rest)
         → Elsewhere base (filter (λ (s : Segment). not (is_writable s.kind)) (s ∷ rest))
     by_head true is placed absent later = rw is later
-    by_head false is placed absent later = rw is (and_from (not (nat_eq s.base base)) (list_all (λ (s : Segment). not (nat_eq s.base base)) (fixed rest)) (none s placed absent is) later)
+    by_head false is placed absent later = rw is (and_from (not (nat_eq s.base base)) (list_all (λ (s : Segment). not (nat_eq s.base base)) (fixed_segments rest)) (none s placed absent is) later)
 
-not_stack : (image block level : ℕ) (kind : SegKind) (base size : ℕ) → 0 < level → level ≤ MOST_LEVELS → lies_right image block kind base size ≡ true → is_writable kind ≡ false
+not_stack : (image block level : ℕ) (kind : SegKind) (base size : ℕ) → 0 < level → level ≤ MOST_LEVELS → is_in_region image block kind base size ≡ true → is_writable kind ≡ false
     → not (nat_eq base (stack_base level)) ≡ true
 not_stack image block level Image base size from to right fixed = absurd cc
 not_stack image block level Pool base size from to right fixed = absurd cc
@@ -84,7 +85,7 @@ not_stack image block level Table base size from to right fixed =
       | inr list ↦ grind (arith, nat_tests)
     ]
 
-not_list : (image block level : ℕ) (kind : SegKind) (base size : ℕ) → 0 < level → level ≤ MOST_LEVELS → lies_right image block kind base size ≡ true
+not_list : (image block level : ℕ) (kind : SegKind) (base size : ℕ) → 0 < level → level ≤ MOST_LEVELS → is_in_region image block kind base size ≡ true
     → (nat_eq base (list_base level) && nat_eq (kind_number kind) (kind_number Table)) ≡ false → is_writable kind ≡ false
     → not (nat_eq base (list_base level)) ≡ true
 not_list image block level Image base size from to right other fixed = absurd cc
@@ -93,23 +94,23 @@ not_list image block level Stack base size from to right other fixed = absurd cc
 not_list image block level Firmware base size from to right other fixed = grind (arith, nat_tests)
 not_list image block level Table base size from to right other fixed = grind (arith, nat_tests)
 
-no_stack_fixed : (level : ℕ) (soft : Soft) → IsKept soft → 0 < level → level ≤ MOST_LEVELS → Elsewhere (stack_base level) (fixed soft.memory)
+no_stack_fixed : (level : ℕ) (soft : Soft) → IsKept soft → 0 < level → level ≤ MOST_LEVELS → Elsewhere (stack_base level) (fixed_segments soft.memory)
 no_stack_fixed level soft kept from to =
     elsewhere (stack_base level) soft.next_image soft.next_block (λ (s : Segment). false) soft.memory
-    (λ s right other fix. not_stack soft.next_image soft.next_block level s.kind s.base (length s.bytes) from to right fix) kept.placed (none soft.memory)
+    (λ s right other fix. not_stack soft.next_image soft.next_block level s.kind s.base (length s.bytes) from to right fix) kept.memory.placed (none soft.memory)
   where
     none : (segments : List Segment) → list_any (λ (s : Segment). false) segments ≡ false
     none [] = refl
     none (s ∷ rest) = none rest
 
-no_list_fixed : (level : ℕ) (soft : Soft) → IsKept soft → 0 < level → level ≤ MOST_LEVELS → has_list level soft.memory ≡ false → Elsewhere (list_base level) (fixed soft.memory)
+no_list_fixed : (level : ℕ) (soft : Soft) → IsKept soft → 0 < level → level ≤ MOST_LEVELS → has_list level soft.memory ≡ false → Elsewhere (list_base level) (fixed_segments soft.memory)
 no_list_fixed level soft kept from to absent =
     elsewhere (list_base level) soft.next_image soft.next_block (λ (s : Segment). nat_eq s.base (list_base level) && is_of Table s) soft.memory
-    (λ s right other fix. not_list soft.next_image soft.next_block level s.kind s.base (length s.bytes) from to right other fix) kept.placed absent
+    (λ s right other fix. not_list soft.next_image soft.next_block level s.kind s.base (length s.bytes) from to right other fix) kept.memory.placed absent
 
 -- a list of children stands only beside a stack
 no_list : (level : ℕ) (soft : Soft) (there : Bool) → IsKept soft → level ≤ MOST_LEVELS → has_stack level soft.memory ≡ false → has_list level soft.memory ≡ there → there ≡ false
-no_list level soft true kept to none is = let stack : has_stack level soft.memory ≡ true = kept.lists level to is in absurd cc
+no_list level soft true kept to none is = let stack : has_stack level soft.memory ≡ true = kept.memory.lists level to is in absurd cc
 no_list level soft false kept to none is = refl
 
 -- ---- pushing and popping
@@ -117,21 +118,21 @@ no_list level soft false kept to none is = refl
 module _ (mapping : MappingKeepsFixed) (unmapping : UnmappingKeepsFixed) (pushing : PushingKeeps) (level : ℕ) (slots : List ℕ) (soft : Soft) (kept : IsKept soft) (from : 0 < level) (to : level ≤ MOST_LEVELS)
     (sixteen : length slots ≡ 16) (none : has_stack level soft.memory ≡ false) where
   -- without the list of children
-  back : (children : List ℕ) → length children ≤ MOST_LISTED → unmapped (fixed (stack_pushed level slots children soft).memory) (list_base level) ≡ fixed soft.memory
+  back : (children : List ℕ) → length children ≤ MOST_LISTED → unmapped (fixed_segments (stack_pushed level slots children soft).memory) (list_base level) ≡ fixed_segments soft.memory
   back [] few =
-      ap (λ segments. unmapped segments (list_base level)) (mapping soft.memory (stack_segment level slots) kept.apart)
-      ∙ unmapped-none (list_base level) (fixed soft.memory) (no_list_fixed level soft kept from to (no_list level soft (has_list level soft.memory) kept to none refl))
+      ap (λ segments. unmapped segments (list_base level)) (mapping soft.memory (stack_segment level slots) kept.memory.apart)
+      ∙ unmapped-none (list_base level) (fixed_segments soft.memory) (no_list_fixed level soft kept from to (no_list level soft (has_list level soft.memory) kept to none refl))
   back (child ∷ children) few =
       let pushed : IsKept (stack_pushed level slots [] soft) = pushing soft level slots [] kept from to sixteen none (omega arith) in
       ap (λ segments. unmapped segments (list_base level))
-      (mapping (mapped (stack_segment level slots) soft.memory) (list_segment level (child ∷ children)) pushed.apart
-      ∙ ap (mapped (list_segment level (child ∷ children))) (mapping soft.memory (stack_segment level slots) kept.apart))
-      ∙ unmapped-mapped (list_segment level (child ∷ children)) (fixed soft.memory)
+      (mapping (mapped (stack_segment level slots) soft.memory) (list_segment level (child ∷ children)) pushed.memory.apart
+      ∙ ap (mapped (list_segment level (child ∷ children))) (mapping soft.memory (stack_segment level slots) kept.memory.apart))
+      ∙ unmapped-mapped (list_segment level (child ∷ children)) (fixed_segments soft.memory)
 
   pub fixed-popped : (children : List ℕ) (during : Soft) → length children ≤ MOST_LISTED → IsKept during
-      → fixed during.memory ≡ fixed (stack_pushed level slots children soft).memory → fixed (stack_popped level during).memory ≡ fixed soft.memory
+      → fixed_segments during.memory ≡ fixed_segments (stack_pushed level slots children soft).memory → fixed_segments (stack_popped level during).memory ≡ fixed_segments soft.memory
   fixed-popped children during few still same =
-      unmapping (unmapped during.memory (stack_base level)) (list_base level) (lie_from-unmapped 0 during.memory (stack_base level) still.apart)
+      unmapping (unmapped during.memory (stack_base level)) (list_base level) (lie_from-unmapped 0 during.memory (stack_base level) still.memory.apart)
       ∙ ap (λ segments. unmapped segments (list_base level))
-      (unmapping during.memory (stack_base level) still.apart ∙ unmapped-none (stack_base level) (fixed during.memory) (no_stack_fixed level during still from to) ∙ same)
+      (unmapping during.memory (stack_base level) still.memory.apart ∙ unmapped-none (stack_base level) (fixed_segments during.memory) (no_stack_fixed level during still from to) ∙ same)
       ∙ back children few

@@ -5,13 +5,13 @@ use Rattle.fw_types.specs.declared.event.Cause.{Cause}
 use Rattle.fw_types.specs.declared.event.Cause.TheVariants.{Align, Budget, Fetch, Memory}
 use Rattle.fw_types.specs.declared.event.Outcome.{Outcome}
 use Rattle.fw_types.specs.declared.event.Outcome.TheVariants.{Trapped}
-use Rattle.guest_memory.specs.GuestMemory.{is_writable_range, loaded}
+use Rattle.guest_memory.specs.GuestMemory.{is_writable_range, number_of}
 use Rattle.ebc_machine.specs.Operands.{◌>>=◌}
 use Rattle.ebc_machine.specs.Step.{Stepped, stepped}
 use Rattle.ebc_machine.specs.declared.cpu.Cpu.{Cpu}
 use Rattle.ebc_machine.specs.declared.cpu.StepOut.{StepOut}
 use Rattle.ebc_machine.specs.declared.cpu.StepOut.TheVariants.{Next, Native, MakeThunk, Done, Trap}
-use Rattle.ebc_machine.specs.declared.run.TheConstants.{EXIT}
+use Rattle.guest_memory.specs.declared.address_map.TheConstants.{EXIT}
 use Rattle.service_thunks.specs.Services.{service_of}
 use Rattle.service_thunks.specs.declared.service.Service.{Service}
 use Rattle.service_thunks.specs.declared.service.Service.TheVariants.{Unbuilt}
@@ -87,13 +87,14 @@ wanted-by place entry soft (Some number) true same =
 
 -- a thunk that is wanted can be stored, and enters an image
 pub wanted : (place entry : ℕ) (soft : Soft) → wanted_entry place soft ≡ Ok entry → (is_writable_range soft.memory place 8 ≡ true) × (is_some (image_at entry soft) ≡ true)
-wanted place entry soft same = wanted-by place entry soft (loaded soft.memory place 4) (is_writable_range soft.memory place 8) same
+wanted place entry soft same = wanted-by place entry soft (number_of soft.memory place 4) (is_writable_range soft.memory place 8) same
 
 -- ---- the changes of a turn
 
 chain-returned : (cpu : Cpu) (w : State) (end : Served × State) → Chain w end.1 → Chain w (returned cpu end).world
 chain-returned cpu w (served.Value value, left) chain = chain
 chain-returned cpu w (served.Trap cause, left) chain = chain
+chain-returned cpu w (served.Again reentry, left) chain = chain
 
 chain-native : (found : Option Service) (image : Option ℕ) (target level : ℕ) (cpu : Cpu) (w : State) → callee target ≡ found → Chain w (native_called found image level cpu w).world
 chain-native None image target level cpu w is = none w
@@ -109,7 +110,7 @@ chain-thunk : (wants : Result ℕ Cause) (place : ℕ) (cpu : Cpu) (w : State) �
 chain-thunk (Ok entry) place cpu w is = chain-thunk_by (thunk_answer w.soft) place entry cpu w is refl
 chain-thunk (Err cause) place cpu w is = none w
 
--- those behind its step
+-- those after its step
 pub chain-acted : (level at : ℕ) (out : StepOut) (cpu : Cpu) (w : State) → Chain w (acted level at out cpu w).world
 chain-acted level at Next cpu w = none w
 chain-acted level at Done cpu w = none w
@@ -117,7 +118,7 @@ chain-acted level at (Trap cause) cpu w = none w
 chain-acted level at (Native target) cpu w = chain-native (callee target) (image_at at w.soft) target level cpu w refl
 chain-acted level at (MakeThunk place) cpu w = chain-thunk (wanted_entry place w.soft) place cpu w refl
 
--- those behind its price
+-- those after its price
 pub chain-step : (level at : ℕ) (cpu : Cpu) (w : State) → Chain w (after_step level at (stepped cpu w.soft.memory) w).world
 chain-step level at cpu w =
     let s : Stepped = stepped cpu w.soft.memory in

@@ -2,15 +2,16 @@
 use Rattle.std.specs.Prelude.{◌≡◌, ◌<◌, ◌≤◌, ℕ, true, false, nat_le, List, [], ◌∷◌, ◌++◌, length, if◌then◌else◌}
 use Rattle.fw_types.specs.declared.event.Event.{Event}
 use Rattle.fw_types.specs.declared.event.Outcome.{Outcome}
-use Rattle.world_model.specs.declared.addresses.TheConstants.{MOST_LEVELS, MOST_LISTED}
+use Rattle.fw_types.specs.declared.limits.TheConstants.{MOST_LEVELS, MOST_LISTED}
 use Rattle.world_model.specs.World.{State}
 use Rattle.world_model.specs.Events.{are_numbered, next_serial}
-use Rattle.world_model.specs.Fixed.{fixed}
+use Rattle.world_model.specs.Fixed.{fixed_segments}
 use Rattle.world_model.specs.Kept.{IsKept}
 use Rattle.world_model.specs.Marks.{stacks}
 use Rattle.world_model.specs.Stacks.{has_stack}
 use Rattle.driver_model.specs.declared.call.Call.{Call}
-use Rattle.driver_model.specs.DriverCall.{allowance, call_made, call_price}
+use Rattle.fw_types.specs.declared.limits.TheConstants.{CALL_PRICE}
+use Rattle.driver_model.specs.DriverCall.{allowance, call_made}
 use Rattle.driver_model.specs.Spending.{Spends}
 
 -- how a call ends, and the state that it leaves
@@ -33,7 +34,7 @@ pub record CanBegin (level : ℕ) (call : Call) (children : List ℕ) (w : State
 abbrev pub CallKeepsFixed : Type 0
 CallKeepsFixed =
     (parent level : ℕ) (call : Call) (children : List ℕ) (w : State) → CanBegin level call children w
-    → fixed (left_by_call parent level call children w).soft.memory ≡ fixed w.soft.memory
+    → fixed_segments (left_by_call parent level call children w).soft.memory ≡ fixed_segments w.soft.memory
 
 -- which stacks stand
 abbrev pub CallKeepsStacks : Type 0
@@ -53,8 +54,8 @@ CallKeepsTpl =
     (parent level : ℕ) (call : Call) (children : List ℕ) (w : State) → (left_by_call parent level call children w).soft.tpl ≡ w.soft.tpl
 
 -- the event of a call that ended so
-abbrev pub told : (parent : ℕ) → Call → Outcome → (serial : ℕ) → Event
-told parent call outcome serial = record {
+abbrev pub event_of : (parent : ℕ) → Call → Outcome → (serial : ℕ) → Event
+event_of parent call outcome serial = record {
   serial = serial;
   parent = parent;
   kind = call.kind;
@@ -69,7 +70,7 @@ abbrev pub CallAddsEvent : Type 0
 CallAddsEvent =
     (parent level : ℕ) (call : Call) (children : List ℕ) (w : State) → are_numbered 1 w.hard.events ≡ true
     → (left_by_call parent level call children w).hard.events
-    ≡ (if nat_le call_price (allowance w) then w.hard.events ++ told parent call (outcome_of parent level call children w) (next_serial w.hard) ∷ [] else w.hard.events)
+    ≡ (if nat_le CALL_PRICE (allowance w) then w.hard.events ++ event_of parent call (outcome_of parent level call children w) (next_serial w.hard) ∷ [] else w.hard.events)
 
 -- units never rise, and the event is paid
 abbrev pub CallSpends : Type 0

@@ -1,4 +1,4 @@
--- All that a run can change, one change behind the other.
+-- All that a run can change, one change after the other.
 use Rattle.std.specs.Prelude.{◌≡◌, ℕ, true, Ok}
 use Rattle.ebc_machine.specs.Step.{stepped}
 use Rattle.ebc_machine.specs.declared.cpu.Cpu.{Cpu}

@@ -1,27 +1,20 @@
--- A driver call: UEFI 2.8, 4.1 'UEFI Image Entry Point'. So far only an image's entry is called, by no
--- other driver.
-use Rattle.std.specs.Prelude.{ℕ, ◌^◌, Bool, false, min, nat_le, nat_lt, not, List, [], ◌∷◌, replicate, if◌then◌else◌}
-use Rattle.fw_types.specs.declared.status.Status.{Status}
+-- A driver call: UEFI 2.8, 4.1 'UEFI Image Entry Point'. So far only the entry points of images are called,
+-- and never by another driver.
+use Rattle.std.specs.Prelude.{ℕ, Bool, false, min, nat_lt, not, List, [], ◌∷◌, replicate, if◌then◌else◌}
+use Rattle.fw_types.specs.Status.{is_error}
+use Rattle.fw_types.specs.declared.limits.TheConstants.{CALL_BUDGET, CALL_PRICE}
 use Rattle.fw_types.specs.declared.event.Cause.TheVariants.{Budget}
 use Rattle.fw_types.specs.declared.event.EventKind.TheVariants.{Entry}
 use Rattle.fw_types.specs.declared.event.Outcome.{Outcome}
 use Rattle.fw_types.specs.declared.event.Outcome.TheVariants.{Value, Trapped}
 use Rattle.ebc_machine.specs.declared.cpu.Cpu.{Cpu}
-use Rattle.world_model.specs.declared.addresses.TheConstants.{SYSTEM_TABLE}
+use Rattle.guest_memory.specs.declared.address_map.TheConstants.{SYSTEM_TABLE}
 use Rattle.world_model.specs.World.{Soft, State, on_hard, on_soft, with_tpl}
-use Rattle.world_model.specs.Units.{set_aside, units_capped, units_returned, units_spent}
+use Rattle.world_model.specs.Units.{units_aside, units_capped, units_returned, units_spent}
 use Rattle.world_model.specs.Events.{event_begun, event_ended, next_serial}
 use Rattle.world_model.specs.Stacks.{frame, stack_popped, stack_pushed}
 use Rattle.driver_model.specs.declared.call.Call.{Call}
 use Rattle.driver_model.specs.GuestRun.{run}
-
--- the most units that one driver call may spend
-abbrev pub call_budget : ℕ
-call_budget = 1048576
-
--- the price of a driver call
-abbrev pub call_price : ℕ
-call_price = 64
 
 -- the level of a call that no driver made
 abbrev pub first_level : ℕ
@@ -31,13 +24,13 @@ first_level = 1
 
 -- what the caller lets a call spend
 abbrev pub allowance : State → ℕ
-allowance w = min call_budget w.hard.units
+allowance w = min CALL_BUDGET w.hard.units
 
 -- no more than that is left while the call lasts; its price is paid, and its event begins
 abbrev pub begun : (parent : ℕ) → Call → State → State
 begun parent call w =
     on_hard (event_begun parent call.kind call.driver call.controller call.extra)
-    (on_hard (units_spent call_price) (on_hard (units_capped call_budget) w))
+    (on_hard (units_spent CALL_PRICE) (on_hard (units_capped CALL_BUDGET) w))
 
 -- the registers as its code begins: IP is at the entry, and R0 at the frame of its stack
 abbrev pub call_cpu : (level : ℕ) → Call → Cpu
@@ -57,23 +50,19 @@ ran_on_stack level call children w =
 abbrev pub ended : (before : State) → Outcome × State → Outcome × State
 ended before (outcome, w) = (
   outcome,
-  on_hard (units_returned (set_aside call_budget before.hard))
+  on_hard (units_returned (units_aside CALL_BUDGET before.hard))
       (on_hard (event_ended (next_serial before.hard) outcome) (on_soft (with_tpl before.soft.tpl) w)),
 )
 
 -- a call at a level, inside an event; with less than its price it traps with no event, and spends nothing
 unfoldable pub call_made : (parent level : ℕ) → Call → (children : List ℕ) → State → Outcome × State
 call_made parent level call children w =
-    if nat_lt (allowance w) call_price then (Trapped Budget, w)
+    if nat_lt (allowance w) CALL_PRICE then (Trapped Budget, w)
     else ended w (ran_on_stack level call children (begun parent call w))
 
 -- ---- what it leaves
 
--- whether a status is an error
-abbrev pub is_error : Status → Bool
-is_error status = nat_le (2 ^ 63) status.0
-
--- whether a call of an entry commits what it did: only where its value is no error
+-- whether a call of an entry commits what it did: only if its value is no error
 abbrev pub commits : Outcome → Bool
 commits (Value status) = not (is_error status)
 commits (Trapped cause) = false

@@ -7,7 +7,7 @@ use Rattle.ebc_machine.specs.Step.{Stepped, stepped}
 use Rattle.ebc_machine.specs.declared.cpu.Cpu.{Cpu}
 use Rattle.ebc_machine.specs.declared.cpu.StepOut.{StepOut}
 use Rattle.ebc_machine.specs.declared.cpu.StepOut.TheVariants.{Next, Native, MakeThunk, Done, Trap}
-use Rattle.ebc_machine.specs.declared.run.TheConstants.{EXIT}
+use Rattle.guest_memory.specs.declared.address_map.TheConstants.{EXIT}
 use Rattle.world_model.specs.World.{State, on_hard, on_soft, with_memory}
 use Rattle.world_model.specs.Units.{units_spent}
 use Rattle.world_model.specs.Images.{image_at}

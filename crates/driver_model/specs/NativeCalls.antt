@@ -9,16 +9,15 @@ use Rattle.ebc_machine.specs.Operands.{register, with_register}
 use Rattle.service_thunks.specs.Services.{service_of}
 use Rattle.service_thunks.specs.declared.service.Service.{Service}
 use Rattle.service_thunks.specs.declared.service.Service.TheVariants.{Unbuilt}
-use Rattle.world_model.specs.declared.addresses.TheConstants.{BUS_SUPPORTED, BUS_START, BUS_STOP}
+use Rattle.guest_memory.specs.declared.address_map.TheConstants.{BUS_GET_DRIVER, BUS_START, BUS_STOP, BUS_SUPPORTED}
 use Rattle.world_model.specs.World.{State}
 use Rattle.service_model.specs.BootServices.{is_boot_service, served}
 use Rattle.service_model.specs.declared.call.Caller.{Caller}
 use Rattle.service_model.specs.declared.call.Served.{Served}
-use Rattle.service_model.specs.declared.call.Served.TheVariants.{Value, Trap}
-use Rattle.driver_model.specs.declared.native.TheConstants.{BUS_GET_DRIVER}
+use Rattle.service_model.specs.declared.call.Served.TheVariants.{Value, Trap, Again}
 use Rattle.driver_model.specs.Turn.{Turn, ends, goes_on}
 
--- ---- what stands at an address
+-- ---- what is at an address
 
 -- the bus driver's functions, which drivers find in its binding and in its override
 abbrev pub bus_functions : List ℕ
@@ -31,8 +30,8 @@ is_bus_function at = list_any (nat_eq at) bus_functions
 abbrev pub available : Service → Service
 available s = if is_boot_service s then s else Unbuilt
 
--- A boot service; or one that is not built, for a function of PCI I/O and one of the bus driver's; or
--- nothing. A live thunk is not called yet.
+-- A boot service; or one that is not built, for a function of PCI I/O or of the bus driver; or nothing. A
+-- live thunk is not called yet.
 abbrev pub callee_by : Option Service → ℕ → Option Service
 callee_by (Some s) at = Some (available s)
 callee_by None at = if is_bus_function at then Some Unbuilt else None
@@ -42,10 +41,13 @@ callee at = callee_by (service_of at) at
 
 -- ---- the call
 
--- the value of a service goes to R7, and the other registers are kept; or its trap ends the run
+-- The value of a service goes to R7, and the other registers are kept; or its trap ends the run. No service
+-- that is built goes on (`service_model::laws::services_end`), so what a run does then is not yet said: it
+-- would end, as if nothing were at the address.
 abbrev pub returned : Cpu → Served × State → Turn
 returned cpu (Value value, w) = goes_on (with_register cpu 7 value) w
 returned cpu (Trap cause, w) = ends (Trapped cause) cpu w
+returned cpu (Again reentry, w) = ends (Trapped BadCall) cpu w
 
 -- who calls: the image, at this level, with its arguments from R0 on
 abbrev pub caller : (image level : ℕ) → Cpu → Caller

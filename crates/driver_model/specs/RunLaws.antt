@@ -2,7 +2,7 @@
 use Rattle.std.specs.Prelude.{◌≡◌, ◌<◌, ◌≤◌, ℕ, None}
 use Rattle.ebc_machine.specs.declared.cpu.Cpu.{Cpu}
 use Rattle.world_model.specs.World.{State}
-use Rattle.world_model.specs.Fixed.{fixed}
+use Rattle.world_model.specs.Fixed.{fixed_segments}
 use Rattle.world_model.specs.Kept.{IsKept}
 use Rattle.world_model.specs.Marks.{stacks}
 use Rattle.driver_model.specs.GuestRun.{after_turn, run, turn, turns}
@@ -14,7 +14,7 @@ left_by_run level cpu w = (run level cpu w).1
 
 -- ---- how it goes on
 
--- a turn behind which the run goes on leaves fewer units
+-- a turn after which the run goes on leaves fewer units
 abbrev pub GoingOnCosts : Type 0
 GoingOnCosts = (level : ℕ) (cpu : Cpu) (w : State) → (turn level cpu w).ended ≡ None → (turn level cpu w).world.hard.units < w.hard.units
 
@@ -52,4 +52,4 @@ RunKeepsStacks = (level : ℕ) (cpu : Cpu) (w : State) → IsKept w.soft → sta
 
 -- the tables, lists of children and blocks of the firmware: the same ones are there, with their bytes
 abbrev pub RunKeepsFixed : Type 0
-RunKeepsFixed = (level : ℕ) (cpu : Cpu) (w : State) → IsKept w.soft → fixed (left_by_run level cpu w).soft.memory ≡ fixed w.soft.memory
+RunKeepsFixed = (level : ℕ) (cpu : Cpu) (w : State) → IsKept w.soft → fixed_segments (left_by_run level cpu w).soft.memory ≡ fixed_segments w.soft.memory

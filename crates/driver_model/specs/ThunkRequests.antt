@@ -4,7 +4,7 @@ use Rattle.byteorder.specs.Endian.{twos_complement}
 use Rattle.fw_types.specs.declared.event.Cause.{Cause}
 use Rattle.fw_types.specs.declared.event.Cause.TheVariants.{Align, Fetch, Memory, Thunks}
 use Rattle.fw_types.specs.declared.event.Outcome.TheVariants.{Trapped}
-use Rattle.guest_memory.specs.GuestMemory.{is_writable_range, loaded}
+use Rattle.guest_memory.specs.GuestMemory.{is_writable_range, number_of}
 use Rattle.ebc_machine.specs.declared.cpu.Cpu.{Cpu}
 use Rattle.ebc_machine.specs.Operands.{◌>>=◌, above, plus}
 use Rattle.world_model.specs.World.{Soft, State, on_soft}
@@ -16,14 +16,14 @@ use Rattle.driver_model.specs.Turn.{Turn, ends, goes_on}
 
 -- ---- the entry
 
--- At the place stand 4 signed bytes, which count from the address behind them.
+-- At the place are 4 signed bytes, which count from the address after them.
 abbrev pub entry_from : (place number : ℕ) → ℕ
 entry_from place number = plus (above place 4) (twos_complement 4 number)
 
 abbrev pub is_even : ℕ → Bool
 is_even at = nat_eq (at % 2) 0
 
--- a test that must hold, else the code traps; and what comes behind it
+-- a test that must hold, else the code traps; and what comes after it
 abbrev pub must : Bool → Cause → Result Unit Cause
 must test cause = if test then Ok tt else Err cause
 
@@ -32,10 +32,10 @@ abbrev pub ◌>>◌ : {A : Type 0} → Result Unit Cause → Result A Cause → 
 (Ok done) >> rest = rest
 (Err cause) >> rest = Err cause
 
--- the entry that stands at a place, at which the address of the thunk can be stored
+-- the entry that is given at a place, at which the address of the thunk can be stored
 abbrev pub wanted_entry : (place : ℕ) → Soft → Result ℕ Cause
 wanted_entry place soft = do
-  number ← ok_or (loaded soft.memory place 4) Memory
+  number ← ok_or (number_of soft.memory place 4) Memory
   must (is_writable_range soft.memory place 8) Memory
   must (is_even (entry_from place number)) Align
   must (is_some (image_at (entry_from place number) soft)) Fetch

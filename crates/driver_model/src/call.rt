@@ -1,6 +1,6 @@
 use fw_types::EventKind;
 
-/// A driver call: what is called, with which arguments, and how its event tells of it.
+/// A driver call: what is called, with which arguments, and what its event reports.
 #[derive(Clone, Copy, Debug, PartialEq, Eq)]
 pub struct Call {
     /// What is called.
@@ -9,7 +9,7 @@ pub struct Call {
     pub driver: u64,
     /// The handle of the controller; of an entry, 0.
     pub controller: u64,
-    /// One more number that the event tells; of an entry, 0.
+    /// One more number that the event reports; of an entry, 0.
     pub extra: u64,
     /// The address of the code.
     pub entry: u64,

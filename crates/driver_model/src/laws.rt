@@ -7,8 +7,8 @@ ghost use Rattle.driver_model.specs.RunLaws.{GoingOnCosts, MoreTurnsChangeNothin
 use service_model::laws::{services_keep, services_leave};
 use world_model::laws::{changes_keep, fixed_segments_stay, stacks_stand};
 
-/// A run goes on turn by turn, and each turn behind which it goes on leaves fewer units; so no run ends
-/// for want of turns.
+/// A run goes on turn by turn, and each turn after which it goes on leaves fewer units; so no run ends
+/// because its turns run out.
 pub fn runs_go_on()
     ensures costs { GoingOnCosts }
     ensures turns { MoreTurnsChangeNothing }
@@ -38,7 +38,7 @@ pub fn runs_leave()
 pub fn runs_keep()
     ensures kept { RunKeeps }
     ensures stacks { RunKeepsStacks }
-    ensures fixed { RunKeepsFixed }
+    ensures fixed_segments { RunKeepsFixed }
 {
     runs_are_chains();
     services_keep();
@@ -62,7 +62,7 @@ pub fn calls_leave()
 pub fn calls_keep()
     ensures kept { CallKeeps }
     ensures stacks { CallKeepsStacks }
-    ensures fixed { CallKeepsFixed }
+    ensures fixed_segments { CallKeepsFixed }
 {
     runs_keep();
     changes_keep();

@@ -9,6 +9,5 @@
 
 mod call;
 pub mod laws;
-pub mod native;
 
 pub use call::Call;

@@ -1,9 +1,6 @@
 pub mod AssemblyLemmas
 pub mod EncodingLemmas
-pub mod HexLemmas
 pub mod LineLemmas
-pub mod LinesLemmas
-pub mod ListingLemmas
 pub mod NumberLemmas
 pub mod TestLemmas
 pub mod NumbersReadBack

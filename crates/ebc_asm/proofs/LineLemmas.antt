@@ -1,32 +1,30 @@
 -- The numbers of a line, one by one.
 use Rattle.std.proofs.Common.{◌≡◌, ℕ, suc, ◌+◌, ◌<◌, ◌≤◌, List, [], ◌∷◌, ◌++◌, length, nat_lt, drop, map, get_or, Result, Ok, Err, refl, sym, ap, ◌∙◌, arith, add-one, drop-cons, append_assoc, Bor}
-use Rattle.std.proofs.lemmas.List.{append-nil}
-use Rattle.std.proofs.lemmas.List.{length-map}
-use Rattle.std.proofs.lemmas.List.Sums.{length-filter}
+use Rattle.std.proofs.lemmas.List.{append-nil, length-map}
+use Rattle.std.proofs.lemmas.List.Sums.{length-filter, count_by-le-length}
 use Rattle.std.proofs.lemmas.List.Splits.{length-slice_split}
-use Rattle.std.proofs.lemmas.List.Sums.{count_by-le-length}
 use Rattle.std.specs.List.{count_by, slice_split}
 use Rattle.ebc_asm.specs.declared.fault.AsmKind.{AsmKind}
-use Rattle.ebc_asm.specs.Assembly.{◌>>=◌, byte_number, bytes_said, is_break, number_words}
+use Rattle.ebc_asm.specs.Assembly.{◌>>=◌, byte_number, bytes_of_words, is_break, number_words}
 
--- bytes, and those that come behind them
-abbrev pub behind_bytes : List ℕ → Result (List ℕ) AsmKind → Result (List ℕ) AsmKind
-behind_bytes bytes said = said >>= λ more. Ok (bytes ++ more)
+-- bytes, and those after them
+abbrev pub rest_of : List ℕ → Result (List ℕ) AsmKind → Result (List ℕ) AsmKind
+rest_of bytes reading = reading >>= λ more. Ok (bytes ++ more)
 
-prepended : (done : List ℕ) (b : ℕ) (said : Result (List ℕ) AsmKind) → behind_bytes done (said >>= λ bs. Ok (b ∷ bs)) ≡ behind_bytes (done ++ b ∷ []) said
+prepended : (done : List ℕ) (b : ℕ) (reading : Result (List ℕ) AsmKind) → rest_of done (reading >>= λ bs. Ok (b ∷ bs)) ≡ rest_of (done ++ b ∷ []) reading
 prepended done b (Ok bs) = ap Ok (sym (append_assoc done (b ∷ []) bs))
 prepended done b (Err refusal) = refl
 
 -- one number more, and one that is refused
-pub number-said : (done word : List ℕ) (words : List (List ℕ)) (b : ℕ) → byte_number word ≡ Ok b → behind_bytes done (bytes_said (word ∷ words)) ≡ behind_bytes (done ++ b ∷ []) (bytes_said words)
-number-said done word words b said =
-    ap (λ r. behind_bytes done (r >>= λ b. bytes_said words >>= λ bs. Ok (b ∷ bs))) said ∙ prepended done b (bytes_said words)
+pub number-reading : (done word : List ℕ) (words : List (List ℕ)) (b : ℕ) → byte_number word ≡ Ok b → rest_of done (bytes_of_words (word ∷ words)) ≡ rest_of (done ++ b ∷ []) (bytes_of_words words)
+number-reading done word words b reading =
+    ap (λ r. rest_of done (r >>= λ b. bytes_of_words words >>= λ bs. Ok (b ∷ bs))) reading ∙ prepended done b (bytes_of_words words)
 
-pub number-refused : (done word : List ℕ) (words : List (List ℕ)) (refusal : AsmKind) → byte_number word ≡ Err refusal → behind_bytes done (bytes_said (word ∷ words)) ≡ Err refusal
-number-refused done word words refusal said =
-    ap (λ r. behind_bytes done (r >>= λ b. bytes_said words >>= λ bs. Ok (b ∷ bs))) said
+pub number-refused : (done word : List ℕ) (words : List (List ℕ)) (refusal : AsmKind) → byte_number word ≡ Err refusal → rest_of done (bytes_of_words (word ∷ words)) ≡ Err refusal
+number-refused done word words refusal reading =
+    ap (λ r. rest_of done (r >>= λ b. bytes_of_words words >>= λ bs. Ok (b ∷ bs))) reading
 
-pub number-last : (done : List ℕ) → behind_bytes done (bytes_said []) ≡ Ok done
+pub number-last : (done : List ℕ) → rest_of done (bytes_of_words []) ≡ Ok done
 number-last done = ap Ok (append-nil done)
 
 pub words-split : (words : List (Bor (List ℕ))) (word : Bor (List ℕ)) (i : ℕ) → i < length words → word ≡ get_or words i word → map (λ w. w.now) (drop i words) ≡ word.now ∷ map (λ w. w.now) (drop (i + 1) words)
@@ -34,7 +32,7 @@ words-split words word i lt e =
     let split : drop i words ≡ word ∷ drop (i + 1) words = rw add-one (drop-cons words i word lt ∙ ap (λ w. w ∷ drop (suc i) words) (sym e)) in
     ap (map (λ w. w.now)) split
 
-pub ruleset number_steps = (number-said, number-refused, number-last, words-split)
+pub ruleset number_steps = (number-reading, number-refused, number-last, words-split)
 
 -- there is at most one word more than there are bytes
 pub number_words-few : (text : List ℕ) → length (number_words text) ≤ length text + 1

@@ -10,11 +10,11 @@ use Rattle.std.proofs.lemmas.Fmt.{digits_is_IsNumeral, decimal_is_IsNumeral}
 use Rattle.std.proofs.lemmas.Str.Parse.{digit_from_value}
 use Rattle.ebc_asm.specs.declared.fault.AsmKind.{AsmKind}
 use Rattle.ebc_asm.specs.declared.fault.AsmKind.TheVariants as kind
-use Rattle.ebc_asm.specs.declared.form.Size.{Size}
-use Rattle.ebc_asm.specs.declared.form.Size.TheVariants.{Byte, Word, Doubleword, Quadword}
-use Rattle.ebc_asm.specs.Names.{bytes_of}
-use Rattle.ebc_asm.specs.Listing.{hex, signed_text, index_text}
-use Rattle.ebc_asm.specs.Assembly.{numeral, is_numeral, within, ◌>>=◌, signed_number, raw_number, brackets_said, is_framed, framed}
+use Rattle.ebc_decode.specs.declared.size.Size.{Size}
+use Rattle.ebc_decode.specs.declared.size.Size.TheVariants.{Byte, Word, Doubleword, Quadword}
+use Rattle.ebc_decode.specs.Sizes.{byte_count}
+use Rattle.ebc_listing.specs.Listing.{hex, signed_text, index_text}
+use Rattle.ebc_asm.specs.Assembly.{numeral, is_numeral, within, ◌>>=◌, signed_number, raw_number, index_in_brackets, is_enclosed, inside}
 use Rattle.ebc_asm.proofs.TestLemmas.{and_true, le-true, lt-true, lt-false, eq-false, eq-true}
 
 -- ---- digits
@@ -75,7 +75,7 @@ minus : (n K : ℕ) → n < K → pos n -ℤ pos K ≡ negsuc (K - suc n)
 minus n zero h = absurd (omega arith)
 minus n (suc k) h = ap (λ b. cond b (negsuc (suc k - suc n)) (pos (n - suc k))) (lt-true n (suc k) h)
 
--- how a signed number is read, where numbers of its size are below a limit, and positive ones below a half
+-- how a signed number is read, if numbers of its size are below a limit, and positive ones below a half
 reading : ℕ → ℕ → List ℕ → Result ℕ AsmKind
 reading half limit text =
     cond (starts_with_minus text) (numeral 10 half (drop 1 text) >>= λ d. Ok ((limit - d) % limit)) (numeral 10 (half - 1) text)
@@ -134,7 +134,7 @@ signed_text_is half limit n twice most fits =
     ]
 
 -- a signed number of a size is read back
-pub signed_is_read : (size : Size) (n : ℕ) → n < 256 ^ bytes_of size → (signed_number size (signed_text size n) ≡ Ok n) × Begins (signed_text size n)
+pub signed_is_read : (size : Size) (n : ℕ) → n < 256 ^ byte_count size → (signed_number size (signed_text size n) ≡ Ok n) × Begins (signed_text size n)
 unfolding reading writing
 signed_is_read Byte n fits = let is = signed_text_is 0x80 0x100 n (omega arith) (omega arith) fits in (is.read, is.begins)
 signed_is_read Word n fits = let is = signed_text_is 0x8000 0x10000 n (omega arith) (omega arith) fits in (is.read, is.begins)
@@ -151,12 +151,12 @@ front_of : (xs : List ℕ) (y : ℕ) → take (length xs) (xs ++ y ∷ []) ≡ x
 front_of [] y = refl
 front_of (x ∷ xs) y = ap (λ l. x ∷ l) (front_of xs y)
 
-pub framed_inner : (left right : ℕ) (inner : List ℕ) → framed (left ∷ (inner ++ right ∷ [])) ≡ inner
+pub framed_inner : (left right : ℕ) (inner : List ℕ) → inside (left ∷ (inner ++ right ∷ [])) ≡ inner
 framed_inner left right inner =
     let size : length (left ∷ (inner ++ right ∷ [])) - 2 ≡ length inner = omega (arith, length-append inner (right ∷ [])) in
     ap (λ n. take n (inner ++ right ∷ [])) size ∙ front_of inner right
 
-pub framed_is : (left right : ℕ) (inner : List ℕ) → is_framed left right (left ∷ (inner ++ right ∷ [])) ≡ true
+pub framed_is : (left right : ℕ) (inner : List ℕ) → is_enclosed left right (left ∷ (inner ++ right ∷ [])) ≡ true
 framed_is left right inner =
     let size : length (left ∷ (inner ++ right ∷ [])) - 1 ≡ suc (length inner) = omega (arith, length-append inner (right ∷ [])) in
     let last : slice_index (left ∷ (inner ++ right ∷ [])) (length (left ∷ (inner ++ right ∷ [])) - 1) ≡ right = ap (slice_index (left ∷ (inner ++ right ∷ []))) size ∙ last_of inner right in
@@ -164,12 +164,12 @@ framed_is left right inner =
 
 -- ---- indices
 
-in_brackets : (size : Size) (inner : List ℕ) (n : ℕ) → raw_number size inner ≡ Ok n → brackets_said size (91 ∷ (inner ++ 93 ∷ [])) ≡ Ok n
+in_brackets : (size : Size) (inner : List ℕ) (n : ℕ) → raw_number size inner ≡ Ok n → index_in_brackets size (91 ∷ (inner ++ 93 ∷ [])) ≡ Ok n
 in_brackets size inner n is =
-    ap (λ b. cond b (raw_number size (framed (91 ∷ (inner ++ 93 ∷ [])))) (Err kind.Operand)) (framed_is 91 93 inner)
+    ap (λ b. cond b (raw_number size (inside (91 ∷ (inner ++ 93 ∷ [])))) (Err kind.Operand)) (framed_is 91 93 inner)
     ∙ ap (raw_number size) (framed_inner 91 93 inner) ∙ is
 
-pub index_is_read : (size : Size) (n : ℕ) → n < 256 ^ bytes_of size → brackets_said size (index_text size n) ≡ Ok n
+pub index_is_read : (size : Size) (n : ℕ) → n < 256 ^ byte_count size → index_in_brackets size (index_text size n) ≡ Ok n
 index_is_read Byte n fits = in_brackets Byte (48 ∷ 120 ∷ hex 2 n) n (hex_is_read 2 0xff n (omega arith) (omega arith))
 index_is_read Word n fits = in_brackets Word (48 ∷ 120 ∷ hex 4 n) n (hex_is_read 4 0xffff n (omega arith) (omega arith))
 index_is_read Doubleword n fits = in_brackets Doubleword (48 ∷ 120 ∷ hex 8 n) n (hex_is_read 8 0xffffffff n (omega arith) (omega arith))

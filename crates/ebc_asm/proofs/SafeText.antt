@@ -7,14 +7,16 @@ use Rattle.std.proofs.Math.Nat.{mod-lt}
 use Rattle.std.proofs.Math.Seq.{take-append_seam}
 use Rattle.ebc_decode.specs.Columns.{is_set}
 use Rattle.ebc_decode.specs.declared.instr.Instr.{Instr}
-use Rattle.ebc_asm.specs.declared.form.Behind.{Behind}
-use Rattle.ebc_asm.specs.declared.form.Behind.TheVariants.{Nothing, Signed, SignedOrLabel, Index}
-use Rattle.ebc_asm.specs.declared.form.Size.{Size}
-use Rattle.ebc_asm.specs.declared.form.Slot.{Slot}
-use Rattle.ebc_asm.specs.declared.form.Slot.TheVariants.{Register, Flags, FlagsOrIp, Immediate, ImmediateOrLabel, RawIndex, Step, Code}
-use Rattle.ebc_asm.specs.Names.{bytes_of}
-use Rattle.ebc_asm.specs.Listing.{register, is_indirect, part, shows, behind, behind_text, slot_text, index_text, hex}
-use Rattle.ebc_asm.specs.Assembly.{is_semicolon, is_blank, is_comma, behind_blanks, first_word, behind_word, only_word}
+use Rattle.ebc_names.specs.declared.slots.Suffix.{Suffix}
+use Rattle.ebc_names.specs.declared.slots.Suffix.TheVariants.{Nothing, Signed, SignedOrLabel, Index}
+use Rattle.ebc_decode.specs.declared.size.Size.{Size}
+use Rattle.ebc_names.specs.declared.slots.Slot.{Slot}
+use Rattle.ebc_names.specs.declared.slots.Slot.TheVariants.{Register, Flags, FlagsOrIp, Immediate, ImmediateOrLabel, RawIndex, Step, Code}
+use Rattle.ebc_decode.specs.Sizes.{byte_count}
+use Rattle.ebc_listing.specs.Listing.{register, is_indirect, part, shows, suffix_text, slot_text, index_text, hex}
+use Rattle.ebc_names.specs.Names.{suffix_of}
+use Rattle.ebc_asm.specs.Assembly.{is_semicolon, is_comma}
+use Rattle.text_lines.specs.Words.{is_blank, after_blanks, first_word, after_word, only_word}
 use Rattle.ebc_asm.proofs.TestLemmas.{and_true, and_parts, not_is, below, at_below}
 
 -- ---- tests of lists
@@ -164,30 +166,30 @@ no_return_at (c ∷ cs) (suc i) a = no_return_at cs i (and_parts (is_inner c) (l
 
 -- ---- words
 
-pub behind_no_blanks : (text : List ℕ) → list_all (λ c. not (is_blank c)) text ≡ true → behind_blanks text ≡ text
-behind_no_blanks [] a = refl
-behind_no_blanks (c ∷ cs) a =
+pub no_blanks_at_front : (text : List ℕ) → list_all (λ c. not (is_blank c)) text ≡ true → after_blanks text ≡ text
+no_blanks_at_front [] a = refl
+no_blanks_at_front (c ∷ cs) a =
     let first : is_blank c ≡ false = not_is (is_blank c) (and_parts (not (is_blank c)) (list_all (λ d. not (is_blank d)) cs) a).0 in
     ap (λ b. drop (cond b (1 + prefix_len is_blank cs) 0) (c ∷ cs)) first
 
--- a word is the only one of itself, and behind a space
-only_of : (text inner : List ℕ) → behind_blanks text ≡ inner → list_all (λ c. not (is_blank c)) inner ≡ true → only_word text ≡ inner
+-- a word is the only one of itself, and after a space
+only_of : (text inner : List ℕ) → after_blanks text ≡ inner → list_all (λ c. not (is_blank c)) inner ≡ true → only_word text ≡ inner
 only_of text inner is a =
-    ap (λ (l : List ℕ). cond (list_all is_blank (behind_word l)) (first_word l) []) is
+    ap (λ (l : List ℕ). cond (list_all is_blank (after_word l)) (first_word l) []) is
     ∙ ap (λ (l : List ℕ). cond (list_all is_blank l) (first_word inner) []) (after_none is_blank inner a)
     ∙ before_none is_blank inner a
 
 pub only_word_is : (text : List ℕ) → list_all is_safe text ≡ true → only_word text ≡ text
-only_word_is text a = only_of text text (behind_no_blanks text (no_blank text a)) (no_blank text a)
+only_word_is text a = only_of text text (no_blanks_at_front text (no_blank text a)) (no_blank text a)
 
-behind_space : (text : List ℕ) → list_all (λ c. not (is_blank c)) text ≡ true → behind_blanks (32 ∷ text) ≡ text
-behind_space [] a = refl
-behind_space (c ∷ cs) a =
+after_space : (text : List ℕ) → list_all (λ c. not (is_blank c)) text ≡ true → after_blanks (32 ∷ text) ≡ text
+after_space [] a = refl
+after_space (c ∷ cs) a =
     let first : is_blank c ≡ false = not_is (is_blank c) (and_parts (not (is_blank c)) (list_all (λ d. not (is_blank d)) cs) a).0 in
     ap (λ b. drop (1 + cond b (1 + prefix_len is_blank cs) 0) (32 ∷ c ∷ cs)) first
 
-pub only_word_behind_space : (text : List ℕ) → list_all is_safe text ≡ true → only_word (32 ∷ text) ≡ text
-only_word_behind_space text a = only_of (32 ∷ text) text (behind_space text (no_blank text a)) (no_blank text a)
+pub only_word_after_space : (text : List ℕ) → list_all is_safe text ≡ true → only_word (32 ∷ text) ≡ text
+only_word_after_space text a = only_of (32 ∷ text) text (after_space text (no_blank text a)) (no_blank text a)
 
 -- ---- what is printed
 
@@ -222,16 +224,16 @@ zeros_safe zero text a = a
 zeros_safe (suc k) text a = zeros_safe k text a
 
 index_safe : (size : Size) (n : ℕ) → list_all is_safe (index_text size n) ≡ true
-index_safe size n = all_append is_safe (hex (2 * bytes_of size) n) (93 ∷ []) (zeros_safe (2 * bytes_of size - length (digits 16 true n)) (digits 16 true n) (digits_safe 16 true n (omega arith) (omega arith))) refl
+index_safe size n = all_append is_safe (hex (2 * byte_count size) n) (93 ∷ []) (zeros_safe (2 * byte_count size - length (digits 16 true n)) (digits 16 true n) (digits_safe 16 true n (omega arith) (omega arith))) refl
 
 braces_safe : (z : ℤ) → list_all is_safe ((123 ∷ signed_decimal z) ++ 125 ∷ []) ≡ true
 braces_safe z = all_append is_safe (signed_decimal z) (125 ∷ []) (signed_safe z) refl
 
-behind_safe : (b : Behind) (size : Size) (n : ℕ) → list_all is_safe (behind_text b size n) ≡ true
-behind_safe Nothing size n = refl
-behind_safe Signed size n = braces_safe _
-behind_safe SignedOrLabel size n = braces_safe _
-behind_safe Index size n = index_safe size n
+suffix_safe : (b : Suffix) (size : Size) (n : ℕ) → list_all is_safe (suffix_text b size n) ≡ true
+suffix_safe Nothing size n = refl
+suffix_safe Signed size n = braces_safe _
+suffix_safe SignedOrLabel size n = braces_safe _
+suffix_safe Index size n = index_safe size n
 
 register_safe : (ind shown : Bool) (k : ℕ) (rest : List ℕ) → list_all is_safe rest ≡ true → list_all is_safe ((cond ind (codes "@R") (codes "R") ++ decimal k) ++ cond shown rest []) ≡ true
 register_safe true true k rest a = all_append is_safe (decimal k) rest (decimal_safe k) a
@@ -246,7 +248,7 @@ flags_safe false = refl
 -- the text of an operand parts nothing
 pub slot_safe : (slot : Slot) (instr : Instr) → list_all is_safe (slot_text slot instr) ≡ true
 slot_safe (Register side shown_by size direct indirect) instr =
-    register_safe (is_indirect side instr) (shows shown_by instr) (register side instr) (behind_text (behind direct indirect (is_indirect side instr)) size (part side instr)) (behind_safe (behind direct indirect (is_indirect side instr)) size (part side instr))
+    register_safe (is_indirect side instr) (shows shown_by instr) (register side instr) (suffix_text (suffix_of direct indirect (is_indirect side instr)) size (part side instr)) (suffix_safe (suffix_of direct indirect (is_indirect side instr)) size (part side instr))
 slot_safe Flags instr = refl
 slot_safe FlagsOrIp instr = flags_safe (is_set instr.operands 4)
 slot_safe (Immediate size) instr = signed_safe _

@@ -2,7 +2,7 @@
 use Rattle.std.proofs.Common.{◌≡◌, ℕ, ◌+◌, ◌*◌, ◌/◌, ◌%◌, ◌<◌, Bool, true, not, ◌&&◌, ◌||◌, nat_lt, List, [], ◌∷◌, length, refl, subst, arith}
 use Rattle.std.specs.Prelude.{bytes_eq, codes, is_some}
 use Rattle.std.specs.List.{list_all}
-use Rattle.ebc_asm.specs.Names.{Name, names}
+use Rattle.ebc_names.specs.Names.{Name, names}
 use Rattle.ebc_asm.proofs.TestLemmas.{below, at_below}
 use Rattle.ebc_asm.proofs.ReadBack.{op_good}
 use Rattle.ebc_asm.proofs.SafeText.{is_safe}
@@ -57,7 +57,7 @@ each_op_good op small =
 
 -- A name has such characters alone and is not `.byte`; one that has an operand 2 has an operand 1.
 abbrev pub is_name : Name → Bool
-is_name n = list_all is_safe n.text && (nat_lt 0 (length n.text) && (not (bytes_eq n.text (codes ".byte")) && (is_some n.form.one || not (is_some n.form.two))))
+is_name n = list_all is_safe n.text && (nat_lt 0 (length n.text) && (not (bytes_eq n.text (codes ".byte")) && (is_some n.pattern.one || not (is_some n.pattern.two))))
 
 -- no two names have one text
 abbrev pub are_apart : List Name → Bool

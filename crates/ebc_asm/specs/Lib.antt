@@ -1,3 +1,2 @@
-pub mod Names
-pub mod Listing
+pub use Rattle.ebc_listing.specs.Listing
 pub mod Assembly

@@ -1,24 +1,25 @@
 ghost use Rattle.std.specs.Prelude.{◌≡◌, ◌<◌, ◌≤◌, ◌+◌, ◌*◌, ◌^◌, ◌++◌, Err, IfOk, MatchResult, Ok, OnOk, length};
 ghost use Rattle.std.specs.Str.Lines.{lines};
-ghost use Rattle.ebc_asm.specs.Assembly.{Gives, Says, assembled, bytes_from, code_of, fault_of, is_repeated, label_at, label_of, labels_from, line_bytes, line_size};
+ghost use Rattle.ebc_asm.specs.Assembly.{Gives, GivesLine, assembly_of, bytes_from, code_of, fault_of, is_repeated, label_at, label_of, labels_from, placed_bytes_of_line, line_size};
 
 use crate::fault::{AsmFault, AsmKind};
 use crate::labels::{Labels, Scope, label_of};
-use crate::lines::line_said;
-use crate::stop::Stop;
-use crate::words::{code_of, first_line};
+use crate::line_fault::LineFault;
+use crate::lines::bytes_of_line;
+use crate::words::code_of;
 use fw_types::OutOfMemory;
 use std::alloc::Global;
+use text_lines::first_line;
 
-/// How many bytes a line has, whatever places the labels have; one that is refused has none.
+/// The number of bytes of a line, which no place of a label changes. A refused line has none.
 fn line_size(alloc: Global, line: &[u8]) -> Result<u64, OutOfMemory>
     ensures value { IfOk result (λ size. size ≡ line_size line.now) }
     ensures small { IfOk result (λ size. size ≤ length line.now + 18) }
 {
-    match line_said(alloc, &Scope::unplaced(), line) {
+    match bytes_of_line(alloc, &Scope::without_places(), line) {
         Ok(bytes) => Ok(bytes.len() as u64),
-        Err(Stop::Refused(_)) => Ok(0),
-        Err(Stop::OutOfMemory) => Err(OutOfMemory),
+        Err(LineFault::Refused(_)) => Ok(0),
+        Err(LineFault::OutOfMemory) => Err(OutOfMemory),
     }
 }
 
@@ -57,7 +58,7 @@ fn labels_of<'a>(alloc: Global, text: &'a [u8]) -> Result<Labels<'a>, OutOfMemor
     Ok(labels)
 }
 
-/// Whether a line's label stands in an earlier line.
+/// Whether an earlier line has the label of this one.
 fn is_repeated(labels: &Labels<'_>, number: u32, line: &[u8]) -> bool
     ensures { result ≡ is_repeated labels.now number (label_of (code_of line.now)) }
 {
@@ -67,42 +68,42 @@ fn is_repeated(labels: &Labels<'_>, number: u32, line: &[u8]) -> bool
     }
 }
 
-/// The bytes of a line, where each label has its place, and how many there are.
-fn line_bytes(
+/// The bytes of a line when each label has its place, and how many there are.
+fn placed_bytes_of_line(
     alloc: Global,
     labels: &Labels<'_>,
     number: u32,
     place: u64,
     line: &[u8],
-) -> Result<(Vec<u8>, u64), Stop>
+) -> Result<(Vec<u8>, u64), LineFault>
     requires { place + length line.now + 18 < 2 ^ 64 }
     ensures value { MatchResult result
-        (λ found. line_bytes labels.now number place line.now ≡ Ok found.0.items)
-        (λ stop. Says (Err stop) (line_bytes labels.now number place line.now)) }
+        (λ found. placed_bytes_of_line labels.now number place line.now ≡ Ok found.0.items)
+        (λ stop. GivesLine (Err stop) (placed_bytes_of_line labels.now number place line.now)) }
     ensures size { IfOk result (λ found. found.1 ≡ line_size line.now) }
     ensures small { IfOk result (λ found. found.1 ≤ length line.now + 18) }
 {
     if is_repeated(labels, number, line) {
-        return Err(Stop::Refused(AsmKind::Label));
+        return Err(LineFault::Refused(AsmKind::Label));
     }
-    let unplaced = line_said(alloc, &Scope::unplaced(), line)?;
-    let size = unplaced.len() as u64;
-    let bytes = line_said(alloc, &Scope::placed(labels, place + size), line)?;
+    let without_places = bytes_of_line(alloc, &Scope::without_places(), line)?;
+    let size = without_places.len() as u64;
+    let bytes = bytes_of_line(alloc, &Scope::with_places(labels, place + size), line)?;
     Ok((bytes, size))
 }
 
 /// The fault of a line that has no bytes.
-fn fault_at(number: u32, stop: Stop) -> AsmFault
+fn fault_at(number: u32, stop: LineFault) -> AsmFault
     ensures { result ≡ fault_of number stop }
 {
     match stop {
-        Stop::Refused(kind) => AsmFault::Refused { line: number, kind },
-        Stop::OutOfMemory => AsmFault::OutOfMemory,
+        LineFault::Refused(kind) => AsmFault::Refused { line: number, kind },
+        LineFault::OutOfMemory => AsmFault::OutOfMemory,
     }
 }
 
 /// The bytes of a text whose labels have these places.
-fn bytes_of(alloc: Global, labels: &Labels<'_>, text: &[u8]) -> Result<Vec<u8>, AsmFault>
+fn bytes_of_text(alloc: Global, labels: &Labels<'_>, text: &[u8]) -> Result<Vec<u8>, AsmFault>
     requires { length text.now < 2 ^ 32 }
     ensures { Gives result (bytes_from labels.now 1 0 (lines text.now)) }
 {
@@ -112,7 +113,7 @@ fn bytes_of(alloc: Global, labels: &Labels<'_>, text: &[u8]) -> Result<Vec<u8>, 
     let mut place: u64 = 0;
     'lines: while !rest.is_empty() {
         let (line, later) = first_line(rest);
-        match line_bytes(alloc, labels, number as u32, place, line) {
+        match placed_bytes_of_line(alloc, labels, number as u32, place, line) {
             Ok((bytes, size)) => {
                 out.extend_from_slice(bytes.as_slice())?;
                 place += size;
@@ -126,21 +127,25 @@ fn bytes_of(alloc: Global, labels: &Labels<'_>, text: &[u8]) -> Result<Vec<u8>, 
 }
 
 /// The bytes of a text in the assembly language of EBC (UEFI 2.8, chapter 22 'EFI Byte Code Virtual
-/// Machine'). A line is blank, a comment behind `;`, a label `name:`, `.byte` with numbers from 0 to
-/// 255 in decimal or behind `0x`, or an instruction as the listing writes it, where `=name` stands
-/// for the signed immediate of MOVREL, JMP8 and the relative JMP64 and CALL64, or in the braces of a
-/// relative JMP32 or CALL32 by R0, computed to that label.
+/// Machine'). A line is blank, a comment after `;`, a label `name:`, `.byte` with numbers from 0 to
+/// 255 in decimal or after `0x`, or an instruction as the listing writes it. `=name` may take the
+/// place of the signed immediate of MOVREL, JMP8 and the relative JMP64 and CALL64, and of the
+/// number in the braces of a relative JMP32 or CALL32 by R0. Its value is the distance to that
+/// label.
 ///
-/// `Refused` has the first line that is refused, counted from 1, and its first kind from left to
-/// right: `UnknownWord` for a name that is not there, `Operand` for a wrong operand or a form that
-/// does not encode, `Number` for a malformed number, `Label` for one that is missing or stands a
-/// second time, and `Range` for a number that does not fit or an odd distance of JMP8.
+/// # Errors
+///
+/// - `Refused` has the first line that is refused, counted from 1, and its first kind from left to
+///   right: `UnknownWord` if there is no such name, `Operand` for a wrong operand or a form that
+///   no bytes encode, `Number` for a malformed number, `Label` for one that is missing or
+///   repeated, and `Range` for a number that does not fit or an odd distance of JMP8.
+/// - `OutOfMemory` if there is no memory for the bytes or the labels.
 pub fn assemble(alloc: Global, text: &str) -> Result<Vec<u8>, AsmFault>
     // Lines and bytes can be counted.
     requires len { length text.now < 2 ^ 32 }
-    ensures assembled { Gives result (assembled text.now) }
+    ensures assembly_of { Gives result (assembly_of text.now) }
 {
     let text = text.as_bytes();
     let labels = labels_of(alloc, text)?;
-    bytes_of(alloc, &labels, text)
+    bytes_of_text(alloc, &labels, text)
 }

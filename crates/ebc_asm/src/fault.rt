@@ -16,7 +16,7 @@ pub enum AsmKind {
     /// A number is malformed.
     #[error("a malformed number")]
     Number,
-    /// A label is missing, or stands a second time.
+    /// A label is missing or repeated.
     #[error("a label that is missing or repeated")]
     Label,
     /// A number or a distance does not fit, or the distance of JMP8 is odd.
@@ -30,7 +30,7 @@ pub enum AsmFault {
     /// The first line that is refused, counted from 1, and its first kind from left to right.
     #[error("line {line}: {kind}")]
     Refused { line: u32, kind: AsmKind },
-    /// There was no memory.
+    /// There is no memory for the bytes or the labels.
     #[error("out of memory")]
     OutOfMemory,
 }

@@ -1,37 +1,37 @@
 ghost use Rattle.std.specs.Prelude.{◌≡◌, ◌<◌, ◌≤◌, ◌-◌, ◌^◌, ◌++◌, ◌∷◌, [], List, ℕ, OnOk, IfOk, None, Some, map, option_map};
 ghost use Rattle.std.specs.List.{list_all};
-ghost use Rattle.ebc_asm.specs.Names.{bytes_of};
-ghost use Rattle.ebc_asm.specs.Assembly.{begins_label, continues_label, in_units, is_label_name, is_reference, is_repeated, label_by, label_of, placed, reach, signed_or_label, way, way_to};
+ghost use Rattle.ebc_decode.specs.Sizes.{byte_count};
+ghost use Rattle.ebc_asm.specs.Assembly.{begins_label, continues_label, in_units, is_label_name, is_reference, is_repeated, label_by, label_of, label_view, label_distance, signed_or_label, distance_between, distance_to};
 
 use crate::fault::AsmKind;
-use crate::form::Size;
 use crate::numbers::{negated, negative_most, positive_most, signed_number, within};
-use crate::words::{behind_first, byte_at, only_word};
+use ebc_decode::Size;
 use fw_types::OutOfMemory;
 use std::alloc::Global;
 use std::marker::Model;
+use text_lines::{byte_at, only_word, rest_from};
 
-/// A label: its name, the number of its line, and its place from the first byte on.
+/// A label: its name, the number of its line, and its place, counted in bytes from the first one.
 #[derive(Clone, Copy, Debug)]
-pub struct Placed<'a> {
+pub struct LabelPlace<'a> {
     pub name: &'a [u8],
     pub line: u32,
     pub place: u64,
 }
 
-/// The labels of a text in their order.
+/// The labels of a text, in the order of their lines.
 #[derive(Drop)]
 pub struct Labels<'a> {
-    items: Vec<Placed<'a>>,
+    items: Vec<LabelPlace<'a>>,
 }
 
 impl<'a> Model for Labels<'a> {
     ghost use Rattle.std.specs.Prelude.{List, map};
-    ghost use Rattle.ebc_asm.specs.Assembly.{Label, placed};
+    ghost use Rattle.ebc_asm.specs.Assembly.{Label, label_view};
 
     ghost Value = { List Label };
 
-    ghost view = { λ inside. map placed inside.items.items };
+    ghost view = { λ inside. map label_view inside.items.items };
 }
 
 impl<'a> Labels<'a> {
@@ -48,7 +48,7 @@ impl<'a> Labels<'a> {
         ensures { OnOk result (self.new
             ≡ self.old ++ record { name = name.now; line = line; place = place } ∷ []) }
     {
-        self.items.push(Placed { name, line, place })?;
+        self.items.push(LabelPlace { name, line, place })?;
         Ok(())
     }
 
@@ -59,7 +59,7 @@ impl<'a> Labels<'a> {
         place_in(self.items.as_slice(), name)
     }
 
-    /// Whether a label of the name stands in an earlier line.
+    /// Whether an earlier line has a label of the name.
     pub fn has_before(&self, line: u32, name: &[u8]) -> bool
         ensures { result ≡ is_repeated self.now line (Some name.now) }
     {
@@ -67,9 +67,9 @@ impl<'a> Labels<'a> {
     }
 }
 
-fn place_in(labels: &[Placed<'_>], name: &[u8]) -> Option<u64>
+fn place_in(labels: &[LabelPlace<'_>], name: &[u8]) -> Option<u64>
     ensures { result
-        ≡ option_map (λ label. label.place) (label_by (map placed labels.now) name.now) }
+        ≡ option_map (λ label. label.place) (label_by (map label_view labels.now) name.now) }
 {
     for label in labels {
         if label.name == name {
@@ -79,8 +79,8 @@ fn place_in(labels: &[Placed<'_>], name: &[u8]) -> Option<u64>
     None
 }
 
-fn is_before(labels: &[Placed<'_>], line: u32, name: &[u8]) -> bool
-    ensures { result ≡ is_repeated (map placed labels.now) line (Some name.now) }
+fn is_before(labels: &[LabelPlace<'_>], line: u32, name: &[u8]) -> bool
+    ensures { result ≡ is_repeated (map label_view labels.now) line (Some name.now) }
 {
     for label in labels {
         if label.name == name && label.line < line {
@@ -90,8 +90,8 @@ fn is_before(labels: &[Placed<'_>], line: u32, name: &[u8]) -> bool
     false
 }
 
-/// What is known where an operand is read: the labels, once each has its place, and the address
-/// behind the instruction.
+/// What is known when an operand is read: the labels, once each has its place, and the address
+/// after the instruction.
 #[derive(Drop)]
 pub struct Scope<'a> {
     pub labels: Option<&'a Labels<'a>>,
@@ -108,8 +108,8 @@ impl<'a> Model for Scope<'a> {
 }
 
 impl<'a> Scope<'a> {
-    /// As long as no label has a place.
-    pub fn unplaced() -> Scope<'a>
+    /// The scope in which no label has a place yet.
+    pub fn without_places() -> Scope<'a>
         ensures { result ≡ (None, 0) }
     {
         Scope {
@@ -118,8 +118,8 @@ impl<'a> Scope<'a> {
         }
     }
 
-    /// Where each label has its place.
-    pub fn placed(labels: &'a Labels<'a>, next: u64) -> Scope<'a>
+    /// The scope in which each label has its place.
+    pub fn with_places(labels: &'a Labels<'a>, next: u64) -> Scope<'a>
         ensures { result ≡ (Some labels.now, next) }
     {
         Scope {
@@ -129,14 +129,14 @@ impl<'a> Scope<'a> {
     }
 }
 
-/// A letter, `_` or `.`.
+/// Whether a label may begin with a byte: a letter, `_` or `.`.
 fn begins_label(byte: u8) -> bool
     ensures { result ≡ begins_label byte }
 {
     matches!(byte, b'A'..=b'Z' | b'a'..=b'z' | b'_' | b'.')
 }
 
-/// One of these or a digit.
+/// Whether a label may go on with a byte: one that may begin it, or a digit.
 fn continues_label(byte: u8) -> bool
     ensures { result ≡ continues_label byte }
 {
@@ -155,7 +155,7 @@ fn is_label_name(text: &[u8]) -> bool
     begins_label(byte_at(text, 0)) && all_continue(text)
 }
 
-/// The name of a label's line `name:`.
+/// The name of a label, if the text is `name:`.
 pub fn label_of(text: &[u8]) -> Option<&[u8]>
     ensures { option_map (λ name. name.now) result ≡ label_of text.now }
 {
@@ -171,7 +171,7 @@ pub fn label_of(text: &[u8]) -> Option<&[u8]>
     }
 }
 
-/// A distance in units of so many bytes.
+/// A distance in units of `unit` bytes.
 fn in_units(unit: u64, distance: u64) -> Result<u64, AsmKind>
     requires { 0 < unit }
     ensures { result ≡ in_units unit distance }
@@ -183,11 +183,11 @@ fn in_units(unit: u64, distance: u64) -> Result<u64, AsmKind>
     }
 }
 
-/// The way from a place to another, in units, in the bytes of a size.
-fn way(unit: u64, size: Size, from: u64, to: u64) -> Result<u64, AsmKind>
+/// The distance from one place to another, in units, as a signed number of a size.
+fn distance_between(unit: u64, size: Size, from: u64, to: u64) -> Result<u64, AsmKind>
     requires { 0 < unit }
-    ensures value { result ≡ way unit size from to }
-    ensures fits { IfOk result (λ n. n < 256 ^ bytes_of size) }
+    ensures value { result ≡ distance_between unit size from to }
+    ensures fits { IfOk result (λ n. n < 256 ^ byte_count size) }
 {
     if from <= to {
         return within(positive_most(size), in_units(unit, to - from)?);
@@ -196,30 +196,30 @@ fn way(unit: u64, size: Size, from: u64, to: u64) -> Result<u64, AsmKind>
     Ok(negated(size, distance))
 }
 
-/// What `=name` stands for: the way from the address behind the instruction to the label, or 0 as
+/// The value of `=name`: the distance from the address after the instruction to the label, or 0 as
 /// long as no label has a place.
-fn reach(scope: &Scope<'_>, unit: u64, size: Size, name: &[u8]) -> Result<u64, AsmKind>
+fn label_distance(scope: &Scope<'_>, unit: u64, size: Size, name: &[u8]) -> Result<u64, AsmKind>
     requires { 0 < unit }
-    ensures value { result ≡ reach scope.now.0 scope.now.1 unit size name.now }
-    ensures fits { IfOk result (λ n. n < 256 ^ bytes_of size) }
+    ensures value { result ≡ label_distance scope.now.0 scope.now.1 unit size name.now }
+    ensures fits { IfOk result (λ n. n < 256 ^ byte_count size) }
 {
     match scope.labels {
         None => Ok(0),
         Some(labels) => match labels.place_by(name) {
             None => Err(AsmKind::Label),
-            Some(place) => way(unit, size, scope.next, place),
+            Some(place) => distance_between(unit, size, scope.next, place),
         },
     }
 }
 
-/// Whether a number's place has `=` and a name.
+/// Whether the place of a number has a label, which begins with `=`.
 pub fn is_reference(text: &[u8]) -> bool
     ensures { result ≡ is_reference text.now }
 {
     byte_at(text, 0) == b'='
 }
 
-/// A signed number, or a label.
+/// Reads a signed number, or a label.
 pub fn signed_or_label(
     scope: &Scope<'_>,
     unit: u64,
@@ -228,14 +228,14 @@ pub fn signed_or_label(
 ) -> Result<u64, AsmKind>
     requires { 0 < unit }
     ensures value { result ≡ signed_or_label scope.now.0 scope.now.1 unit size text.now }
-    ensures fits { IfOk result (λ n. n < 256 ^ bytes_of size) }
+    ensures fits { IfOk result (λ n. n < 256 ^ byte_count size) }
 {
     if !is_reference(text) {
         return signed_number(size, text);
     }
-    let name = behind_first(text, 1);
+    let name = rest_from(text, 1);
     if is_label_name(name) {
-        reach(scope, unit, size, name)
+        label_distance(scope, unit, size, name)
     } else {
         Err(AsmKind::Operand)
     }

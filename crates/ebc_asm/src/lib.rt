@@ -1,22 +1,24 @@
-//! The assembly language of EBC: the listing of bytes, and the bytes of a text.
+//! The assembly language of EBC (UEFI 2.8, chapter 22 'EFI Byte Code Virtual Machine'): `assemble`
+//! makes bytes of a text, and `disassemble` (of `ebc_listing`) a text of bytes.
+//!
+//! `assembly` goes over a text twice: first it gives each label its place, then it makes the bytes
+//! of each line with them. `lines` reads one line, `operands` one operand by its place in the table
+//! of `ebc_names`, `numbers` and `labels` what an operand is made of. `laws` ties both directions.
 #![tactic(auto)]
 
 mod assembly;
 mod fault;
-mod form;
 mod labels;
 pub mod laws;
+mod line_fault;
 mod lines;
-mod listing;
-mod names;
 mod numbers;
 mod operands;
-mod stop;
 mod words;
 
 pub use assembly::assemble;
+pub use ebc_listing::disassemble;
 pub use fault::{AsmFault, AsmKind};
-pub use listing::disassemble;
 
 #[cfg(test)]
 mod tests;

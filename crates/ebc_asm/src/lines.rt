@@ -1,26 +1,26 @@
 ghost use Rattle.std.specs.Prelude.{◌≡◌, ◌≤◌, ◌+◌, Err, IfOk, MatchResult, Ok, Some, filter, length, map, nat_lt, take, vec_len};
 ghost use Rattle.std.specs.List.{slice_split};
-ghost use Rattle.ebc_asm.specs.Names.{name_by, named};
-ghost use Rattle.ebc_asm.specs.Assembly.{Says, bytes_said, code_said, encoded, first_word, form_said, behind_word, instr_said, is_break, line_said, number_words, numbers_said, operands_said};
+ghost use Rattle.ebc_names.specs.Names.{name_by, row_name};
+ghost use Rattle.ebc_asm.specs.Assembly.{GivesLine, bytes_of_words, bytes_of_code, encoding, bare_instr, bytes_of_instr, is_break, bytes_of_line, number_words, bytes_of_numbers, operands_of};
+ghost use Rattle.text_lines.specs.Words.{first_word, after_word};
 
 use crate::fault::AsmKind;
-use crate::form::Form;
 use crate::labels::{Scope, label_of};
-use crate::names::{Row, name_by};
+use crate::line_fault::LineFault;
 use crate::numbers::byte_number;
-use crate::operands::{adding, joined, slot_said};
-use crate::stop::Stop;
-use crate::words::{
-    before_comma, behind_comma, behind_word, code_of, first_word, is, is_all_blank, is_blank,
-    only_word,
-};
+use crate::operands::{contribution, slot_operand, union_of};
+use crate::words::code_of;
 use ebc_decode::{Instr, encode};
+use ebc_names::{NameRow, Pattern, name_by};
 use std::alloc::{AllocError, Global};
+use text_lines::{
+    after_byte, after_word, before_byte, first_word, is, is_all_blank, is_blank, only_word,
+};
 
-/// The bytes of an instruction, and how many there are.
-fn encoded(instr: &Instr) -> Result<([u8; 18], u8), AsmKind>
-    ensures value { MatchResult result (λ found. encoded instr.now ≡ Ok (take found.1 found.0))
-        (λ kind. encoded instr.now ≡ Err kind) }
+/// The bytes of an instruction, and how many there are. One that no bytes spell is a wrong operand.
+fn encoding(instr: &Instr) -> Result<([u8; 18], u8), AsmKind>
+    ensures value { MatchResult result (λ found. encoding instr.now ≡ Ok (take found.1 found.0))
+        (λ kind. encoding instr.now ≡ Err kind) }
     ensures len { IfOk result (λ found. found.1 ≤ 18) }
 {
     match encode(instr) {
@@ -29,45 +29,47 @@ fn encoded(instr: &Instr) -> Result<([u8; 18], u8), AsmKind>
     }
 }
 
-/// What a name says alone.
-fn form_said(form: &Form) -> Instr
-    ensures { result ≡ form_said form.now }
+/// The instruction of a name without its operands.
+fn bare_instr(pattern: &Pattern) -> Instr
+    ensures { result ≡ bare_instr pattern.now }
 {
     Instr {
-        op: form.op,
-        mods: form.bits.mods,
-        operands: form.bits.operands,
+        op: pattern.op,
+        mods: pattern.bits.mods,
+        operands: pattern.bits.operands,
         first: 0,
         second: 0,
     }
 }
 
-/// What the operands say together, the first one first.
-fn operands_said(form: &Form, scope: &Scope<'_>, text: &[u8]) -> Result<Instr, AsmKind>
-    ensures { result ≡ operands_said form.now.one form.now.two scope.now.0 scope.now.1 text.now }
+/// Reads the operands of a name, the first one first.
+fn operands_of(pattern: &Pattern, scope: &Scope<'_>, text: &[u8]) -> Result<Instr, AsmKind>
+    ensures { result
+        ≡ operands_of pattern.now.one pattern.now.two scope.now.0 scope.now.1 text.now }
 {
-    match (form.one, form.two) {
-        (None, _) if is_all_blank(text) => Ok(adding(0, 0, 0, 0)),
+    match (pattern.one, pattern.two) {
+        (None, _) if is_all_blank(text) => Ok(contribution(0, 0, 0, 0)),
         (None, _) => Err(AsmKind::Operand),
-        (Some(one), None) => slot_said(one, scope, only_word(text)),
+        (Some(one), None) => slot_operand(one, scope, only_word(text)),
         (Some(one), Some(two)) => {
-            let first = slot_said(one, scope, only_word(before_comma(text)))?;
-            let second = slot_said(two, scope, only_word(behind_comma(text)))?;
-            Ok(joined(&first, &second))
+            let first = slot_operand(one, scope, only_word(before_byte(text, b',')))?;
+            let second = slot_operand(two, scope, only_word(after_byte(text, b',')))?;
+            Ok(union_of(&first, &second))
         }
     }
 }
 
-/// The bytes of a name and its operands.
-fn instr_said(row: &Row, scope: &Scope<'_>, text: &[u8]) -> Result<([u8; 18], u8), AsmKind>
+/// Reads the operands of a name, and answers the bytes of the instruction.
+fn bytes_of_instr(row: &NameRow, scope: &Scope<'_>, text: &[u8]) -> Result<([u8; 18], u8), AsmKind>
     ensures value { MatchResult result
-        (λ found. instr_said (Some (named row.now)) scope.now.0 scope.now.1 text.now
+        (λ found. bytes_of_instr (Some (row_name row.now)) scope.now.0 scope.now.1 text.now
         ≡ Ok (take found.1 found.0))
-        (λ kind. instr_said (Some (named row.now)) scope.now.0 scope.now.1 text.now ≡ Err kind) }
+        (λ kind. bytes_of_instr (Some (row_name row.now)) scope.now.0 scope.now.1 text.now
+        ≡ Err kind) }
     ensures len { IfOk result (λ found. found.1 ≤ 18) }
 {
-    let added = operands_said(&row.form, scope, text)?;
-    encoded(&joined(&form_said(&row.form), &added))
+    let added = operands_of(&row.pattern, scope, text)?;
+    encoding(&union_of(&bare_instr(&row.pattern), &added))
 }
 
 fn is_break(byte: u8) -> bool
@@ -76,7 +78,7 @@ fn is_break(byte: u8) -> bool
     is_blank(byte) || byte == b','
 }
 
-/// The numbers behind `.byte`.
+/// The numbers after `.byte`, which commas and blanks part.
 fn number_words<'a>(alloc: Global, text: &'a [u8]) -> Result<Vec<&'a [u8]>, AllocError>
     ensures { IfOk result (λ words. map (λ word. word.now) words.items ≡ number_words text.now) }
 {
@@ -85,10 +87,10 @@ fn number_words<'a>(alloc: Global, text: &'a [u8]) -> Result<Vec<&'a [u8]>, Allo
         .collect(alloc)
 }
 
-/// The bytes that they are.
+/// Reads each number as a byte.
 #[tactic(auto, using(crate::proofs::LineLemmas::number_steps))]
-fn bytes_said(alloc: Global, words: &[&[u8]]) -> Result<Vec<u8>, Stop>
-    ensures value { Says result (bytes_said (map (λ word. word.now) words.now)) }
+fn bytes_of_words(alloc: Global, words: &[&[u8]]) -> Result<Vec<u8>, LineFault>
+    ensures value { GivesLine result (bytes_of_words (map (λ word. word.now) words.now)) }
     ensures len { IfOk result (λ bytes. vec_len bytes ≤ length words.now) }
 {
     let mut bytes = Vec::new(alloc);
@@ -98,35 +100,36 @@ fn bytes_said(alloc: Global, words: &[&[u8]]) -> Result<Vec<u8>, Stop>
     Ok(bytes)
 }
 
-/// One or more numbers.
+/// Reads one or more numbers as bytes.
 #[tactic(auto, using(crate::proofs::LineLemmas::few_words))]
-fn numbers_said(alloc: Global, text: &[u8]) -> Result<Vec<u8>, Stop>
-    ensures value { Says result (numbers_said (number_words text.now)) }
+fn bytes_of_numbers(alloc: Global, text: &[u8]) -> Result<Vec<u8>, LineFault>
+    ensures value { GivesLine result (bytes_of_numbers (number_words text.now)) }
     ensures len { IfOk result (λ bytes. vec_len bytes ≤ length text.now + 1) }
 {
     let words = number_words(alloc, text)?;
     if words.is_empty() {
-        return Err(Stop::Refused(AsmKind::Operand));
+        return Err(LineFault::Refused(AsmKind::Operand));
     }
-    bytes_said(alloc, words.as_slice())
+    bytes_of_words(alloc, words.as_slice())
 }
 
-/// The bytes of an instruction's line.
-fn named_said(alloc: Global, scope: &Scope<'_>, text: &[u8]) -> Result<Vec<u8>, Stop>
-    ensures value { Says result
-        (instr_said (name_by (first_word text.now)) scope.now.0 scope.now.1 (behind_word text.now)) }
+/// Reads a line with a name and its operands.
+fn bytes_of_named(alloc: Global, scope: &Scope<'_>, text: &[u8]) -> Result<Vec<u8>, LineFault>
+    ensures value { GivesLine result
+        (bytes_of_instr (name_by (first_word text.now)) scope.now.0 scope.now.1
+        (after_word text.now)) }
     ensures len { IfOk result (λ bytes. vec_len bytes ≤ 18) }
 {
     let Some(row) = name_by(first_word(text)) else {
-        return Err(Stop::Refused(AsmKind::UnknownWord));
+        return Err(LineFault::Refused(AsmKind::UnknownWord));
     };
-    let (bytes, size) = instr_said(row, scope, behind_word(text))?;
+    let (bytes, size) = bytes_of_instr(row, scope, after_word(text))?;
     Ok(Vec::from_slice(alloc, &bytes[..size as usize])?)
 }
 
-/// The bytes that a line says.
-pub fn line_said(alloc: Global, scope: &Scope<'_>, line: &[u8]) -> Result<Vec<u8>, Stop>
-    ensures value { Says result (line_said scope.now.0 scope.now.1 line.now) }
+/// Reads a line, and answers its bytes.
+pub fn bytes_of_line(alloc: Global, scope: &Scope<'_>, line: &[u8]) -> Result<Vec<u8>, LineFault>
+    ensures value { GivesLine result (bytes_of_line scope.now.0 scope.now.1 line.now) }
     ensures len { IfOk result (λ bytes. vec_len bytes ≤ length line.now + 18) }
 {
     let text = code_of(line);
@@ -134,7 +137,7 @@ pub fn line_said(alloc: Global, scope: &Scope<'_>, line: &[u8]) -> Result<Vec<u8
         return Ok(Vec::new(alloc));
     }
     if is(first_word(text), ".byte") {
-        return numbers_said(alloc, behind_word(text));
+        return bytes_of_numbers(alloc, after_word(text));
     }
-    named_said(alloc, scope, text)
+    bytes_of_named(alloc, scope, text)
 }

@@ -2,14 +2,14 @@ ghost use Rattle.std.specs.Prelude.{◌≡◌, ◌<◌, ◌≤◌, ◌-◌, ◌^
 ghost use Rattle.std.specs.Char.{digit_value};
 ghost use Rattle.std.specs.List.{list_all};
 ghost use Rattle.std.specs.Str.Parse.{digits_value};
-ghost use Rattle.ebc_asm.specs.Names.{bytes_of};
+ghost use Rattle.ebc_decode.specs.Sizes.{byte_count};
 ghost use Rattle.ebc_asm.specs.Assembly.{byte_number, is_hex, is_numeral, negated, negative_most, numeral, positive_most, raw_number, signed_number, unsigned_most, within};
 
 use crate::fault::AsmKind;
-use crate::form::Size;
-use crate::words::{behind_first, byte_at};
+use ebc_decode::Size;
+use text_lines::{byte_at, rest_from};
 
-/// The value of a digit: letters of either case go on behind 9, and what is no digit is 36 or more.
+/// The value of a digit. Letters of either case go on after 9, and 36 is no digit.
 fn digit(byte: u8) -> u64
     ensures { result ≡ digit_value byte }
 {
@@ -33,7 +33,7 @@ fn is_numeral(base: u64, text: &[u8]) -> bool
     0 < text.len() && are_digits(base, text)
 }
 
-/// The number that digits write, if it fits 64 bits.
+/// The value of digits, if it fits 64 bits.
 #[tactic(auto, using(crate::proofs::NumberLemmas::values))]
 fn value(base: u64, digits: &[u8]) -> Option<u64>
     requires { 1 ≤ base }
@@ -47,7 +47,7 @@ fn value(base: u64, digits: &[u8]) -> Option<u64>
     Some(n)
 }
 
-/// A number that is at most so much.
+/// A number, if it is at most `most`.
 pub fn within(most: u64, n: u64) -> Result<u64, AsmKind>
     ensures value { result ≡ within most n }
     ensures bound { IfOk result (λ n. n ≤ most) }
@@ -59,7 +59,7 @@ pub fn within(most: u64, n: u64) -> Result<u64, AsmKind>
     }
 }
 
-/// The number that digits write, at most so much.
+/// Reads digits as a number of at most `most`.
 pub fn numeral(base: u64, most: u64, text: &[u8]) -> Result<u64, AsmKind>
     requires { 1 ≤ base }
     ensures value { result ≡ numeral base most text.now }
@@ -74,7 +74,7 @@ pub fn numeral(base: u64, most: u64, text: &[u8]) -> Result<u64, AsmKind>
     }
 }
 
-/// The greatest number of a size.
+/// The greatest unsigned number of a size.
 fn unsigned_most(size: Size) -> u64
     ensures { result ≡ unsigned_most size }
 {
@@ -86,10 +86,10 @@ fn unsigned_most(size: Size) -> u64
     }
 }
 
-/// The greatest number of a size with a sign.
+/// The greatest signed number of a size.
 pub fn positive_most(size: Size) -> u64
     ensures value { result ≡ positive_most size }
-    ensures fits { result < 256 ^ bytes_of size }
+    ensures fits { result < 256 ^ byte_count size }
 {
     match size {
         Size::Byte => 0x7f,
@@ -99,7 +99,7 @@ pub fn positive_most(size: Size) -> u64
     }
 }
 
-/// How far the least number of a size with a sign is from 0.
+/// The distance of the least signed number of a size from 0.
 pub fn negative_most(size: Size) -> u64
     ensures { result ≡ negative_most size }
 {
@@ -114,8 +114,8 @@ pub fn negative_most(size: Size) -> u64
 /// A negative number in the bytes of a size, by its distance from 0.
 pub fn negated(size: Size, n: u64) -> u64
     requires { n ≤ negative_most size }
-    ensures value { result ≡ (256 ^ bytes_of size - n) % 256 ^ bytes_of size }
-    ensures fits { result < 256 ^ bytes_of size }
+    ensures value { result ≡ (256 ^ byte_count size - n) % 256 ^ byte_count size }
+    ensures fits { result < 256 ^ byte_count size }
 {
     match size {
         Size::Byte => (0x100 - n) % 0x100,
@@ -125,15 +125,15 @@ pub fn negated(size: Size, n: u64) -> u64
     }
 }
 
-/// A signed decimal number in the bytes of a size.
+/// Reads a signed decimal number into the bytes of a size.
 pub fn signed_number(size: Size, text: &[u8]) -> Result<u64, AsmKind>
     ensures value { result ≡ signed_number size text.now }
-    ensures fits { IfOk result (λ n. n < 256 ^ bytes_of size) }
+    ensures fits { IfOk result (λ n. n < 256 ^ byte_count size) }
 {
     if byte_at(text, 0) != b'-' {
         return numeral(10, positive_most(size), text);
     }
-    let distance = numeral(10, negative_most(size), behind_first(text, 1))?;
+    let distance = numeral(10, negative_most(size), rest_from(text, 1))?;
     Ok(negated(size, distance))
 }
 
@@ -143,23 +143,23 @@ fn is_hex(text: &[u8]) -> bool
     text.starts_with(b"0x")
 }
 
-/// The raw bits of a size: `0x` and hexadecimal digits.
+/// Reads the raw bits of a size: `0x` and hexadecimal digits.
 pub fn raw_number(size: Size, text: &[u8]) -> Result<u64, AsmKind>
     ensures value { result ≡ raw_number size text.now }
 {
     if is_hex(text) {
-        numeral(16, unsigned_most(size), behind_first(text, 2))
+        numeral(16, unsigned_most(size), rest_from(text, 2))
     } else {
         Err(AsmKind::Number)
     }
 }
 
-/// A byte in decimal or hexadecimal.
+/// Reads a byte in decimal or hexadecimal.
 pub fn byte_number(text: &[u8]) -> Result<u8, AsmKind>
     ensures value { result ≡ byte_number text.now }
 {
     let n = if is_hex(text) {
-        numeral(16, 255, behind_first(text, 2))?
+        numeral(16, 255, rest_from(text, 2))?
     } else {
         numeral(10, 255, text)?
     };

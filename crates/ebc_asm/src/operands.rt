@@ -1,18 +1,19 @@
 ghost use Rattle.std.specs.Prelude.{◌≡◌, ◌<◌, ◌≤◌, ◌^◌, IfOk, Ok, bytes_eq, codes, if◌then◌else◌};
-ghost use Rattle.ebc_asm.specs.Names.{bits, bytes_of};
-ghost use Rattle.ebc_asm.specs.Assembly.{adding, adding_part, adding_register, begins_register, behind_at, behind_said, brackets_said, braces_said, flags_said, is_in_braces, is_in_brackets, is_other_operand, joined, number_or_label, plain_number, signed_number, numeral, slot_said};
+ghost use Rattle.ebc_names.specs.Names.{bits};
+ghost use Rattle.ebc_decode.specs.Sizes.{byte_count};
+ghost use Rattle.ebc_asm.specs.Assembly.{contribution, part_contribution, register_contribution, begins_register, after_at_sign, number_after_register, index_in_brackets, number_in_braces, flags_operand, is_in_braces, is_in_brackets, is_other_operand, union_of, number_or_label, plain_number, signed_number, numeral, slot_operand};
 
 use crate::fault::AsmKind;
-use crate::form::{Behind, Bits, Side, Size, Slot};
 use crate::labels::{Scope, is_reference, signed_or_label};
-use crate::listing::behind;
 use crate::numbers::{numeral, raw_number, signed_number};
-use crate::words::{behind_first, byte_at, framed, is, is_framed};
-use ebc_decode::Instr;
+use crate::words::{inside, is_enclosed};
+use ebc_decode::{Instr, Size};
+use ebc_names::{Bits, Side, Slot, Suffix, suffix_of};
+use text_lines::{byte_at, is, rest_from};
 
-/// What an operand adds to its instruction.
-pub fn adding(mods: u8, operands: u8, first: u64, second: u64) -> Instr
-    ensures { result ≡ adding (bits mods operands) first second }
+/// The bits and parts that an operand adds to its instruction.
+pub fn contribution(mods: u8, operands: u8, first: u64, second: u64) -> Instr
+    ensures { result ≡ contribution (bits mods operands) first second }
 {
     Instr {
         op: 0,
@@ -23,9 +24,9 @@ pub fn adding(mods: u8, operands: u8, first: u64, second: u64) -> Instr
     }
 }
 
-/// The bits and the parts of both.
-pub fn joined(a: &Instr, b: &Instr) -> Instr
-    ensures { result ≡ joined a.now b.now }
+/// The bits and parts of both instructions together.
+pub fn union_of(a: &Instr, b: &Instr) -> Instr
+    ensures { result ≡ union_of a.now b.now }
 {
     Instr {
         op: a.op | b.op,
@@ -36,82 +37,87 @@ pub fn joined(a: &Instr, b: &Instr) -> Instr
     }
 }
 
-/// The register of an operand.
-fn adding_register(side: Side, is_indirect: bool, number: u8) -> Instr
+/// What the register of an operand adds.
+fn register_contribution(side: Side, is_indirect: bool, number: u8) -> Instr
     requires { number < 8 }
-    ensures { result ≡ adding_register side is_indirect number }
+    ensures { result ≡ register_contribution side is_indirect number }
 {
     let bits = if is_indirect { number + 8 } else { number };
     match side {
-        Side::One => adding(0, bits, 0, 0),
-        Side::Two => adding(0, 16 * bits, 0, 0),
+        Side::One => contribution(0, bits, 0, 0),
+        Side::Two => contribution(0, 16 * bits, 0, 0),
     }
 }
 
-/// The part of an operand.
-fn adding_part(side: Side, shown_by: Bits, n: u64) -> Instr
-    ensures { result ≡ adding_part side shown_by n }
+/// What the number of an operand adds, with the bits that show it.
+fn part_contribution(side: Side, shown_by: Bits, n: u64) -> Instr
+    ensures { result ≡ part_contribution side shown_by n }
 {
     match side {
-        Side::One => adding(shown_by.mods, shown_by.operands, n, 0),
-        Side::Two => adding(shown_by.mods, shown_by.operands, 0, n),
+        Side::One => contribution(shown_by.mods, shown_by.operands, n, 0),
+        Side::Two => contribution(shown_by.mods, shown_by.operands, 0, n),
     }
 }
 
 fn is_in_brackets(text: &[u8]) -> bool
     ensures { result ≡ is_in_brackets text.now }
 {
-    is_framed(b'[', b']', text)
+    is_enclosed(b'[', b']', text)
 }
 
 fn is_in_braces(text: &[u8]) -> bool
     ensures { result ≡ is_in_braces text.now }
 {
-    is_framed(b'{', b'}', text)
+    is_enclosed(b'{', b'}', text)
 }
 
-/// The signed number in braces, or a label where one is allowed.
-fn braces_said(allowed: bool, scope: &Scope<'_>, size: Size, text: &[u8]) -> Result<u64, AsmKind>
+/// Reads the signed number in braces, or a label if one is allowed.
+fn number_in_braces(
+    allowed: bool,
+    scope: &Scope<'_>,
+    size: Size,
+    text: &[u8],
+) -> Result<u64, AsmKind>
     ensures { result
-        ≡ braces_said allowed scope.now.0 scope.now.1 size text.now }
+        ≡ number_in_braces allowed scope.now.0 scope.now.1 size text.now }
 {
     if !is_in_braces(text) {
         return Err(AsmKind::Operand);
     }
-    let inner = framed(text);
+    let inner = inside(text);
     if !allowed && is_reference(inner) {
         return Err(AsmKind::Operand);
     }
     signed_or_label(scope, 1, size, inner)
 }
 
-/// The index in brackets.
-fn brackets_said(size: Size, text: &[u8]) -> Result<u64, AsmKind>
-    ensures { result ≡ brackets_said size text.now }
+/// Reads the raw bits of an index in brackets.
+fn index_in_brackets(size: Size, text: &[u8]) -> Result<u64, AsmKind>
+    ensures { result ≡ index_in_brackets size text.now }
 {
     if is_in_brackets(text) {
-        raw_number(size, framed(text))
+        raw_number(size, inside(text))
     } else {
         Err(AsmKind::Operand)
     }
 }
 
-/// The number behind a register, where there is one; `plain` says that the register is R0, direct.
-fn behind_said(
-    allowed: Behind,
+/// Reads the number after a register. `plain` says that the register is R0 and direct.
+fn number_after_register(
+    allowed: Suffix,
     plain: bool,
     scope: &Scope<'_>,
     size: Size,
     text: &[u8],
 ) -> Result<u64, AsmKind>
     ensures { result
-        ≡ behind_said allowed plain scope.now.0 scope.now.1 size text.now }
+        ≡ number_after_register allowed plain scope.now.0 scope.now.1 size text.now }
 {
     match allowed {
-        Behind::Nothing => Err(AsmKind::Operand),
-        Behind::Signed => braces_said(false, scope, size, text),
-        Behind::SignedOrLabel => braces_said(plain, scope, size, text),
-        Behind::Index => brackets_said(size, text),
+        Suffix::Nothing => Err(AsmKind::Operand),
+        Suffix::Signed => number_in_braces(false, scope, size, text),
+        Suffix::SignedOrLabel => number_in_braces(plain, scope, size, text),
+        Suffix::Index => index_in_brackets(size, text),
     }
 }
 
@@ -122,7 +128,7 @@ fn begins_register(text: &[u8]) -> bool
     byte_at(text, 0) == b'R' && matches!(byte_at(text, 1), b'0'..=b'7')
 }
 
-/// Whether a number's place has another operand in it: none, a register, an index or a label.
+/// Whether the place of a number has no number: it is empty, a register, an index or a label.
 fn is_other_operand(text: &[u8]) -> bool
     ensures { result ≡ is_other_operand text.now }
 {
@@ -131,7 +137,7 @@ fn is_other_operand(text: &[u8]) -> bool
 
 fn plain_signed(size: Size, text: &[u8]) -> Result<u64, AsmKind>
     ensures value { result ≡ plain_number (signed_number size) text.now }
-    ensures fits { IfOk result (λ n. n < 256 ^ bytes_of size) }
+    ensures fits { IfOk result (λ n. n < 256 ^ byte_count size) }
 {
     if is_other_operand(text) {
         Err(AsmKind::Operand)
@@ -151,12 +157,12 @@ fn plain_code(text: &[u8]) -> Result<u64, AsmKind>
     }
 }
 
-/// A number that may be a label.
+/// Reads a number that may be a label.
 fn number_or_label(scope: &Scope<'_>, unit: u64, size: Size, text: &[u8]) -> Result<u64, AsmKind>
     requires { 0 < unit }
     ensures value { result
         ≡ number_or_label scope.now.0 scope.now.1 unit size text.now }
-    ensures fits { IfOk result (λ n. n < 256 ^ bytes_of size) }
+    ensures fits { IfOk result (λ n. n < 256 ^ byte_count size) }
 {
     if is_reference(text) {
         signed_or_label(scope, unit, size, text)
@@ -165,72 +171,72 @@ fn number_or_label(scope: &Scope<'_>, unit: u64, size: Size, text: &[u8]) -> Res
     }
 }
 
-/// The text behind `@`.
-fn behind_at(text: &[u8]) -> &[u8]
-    ensures { result.now ≡ behind_at text.now }
+/// The text after `@`, or all of it if it does not begin with `@`.
+fn after_at_sign(text: &[u8]) -> &[u8]
+    ensures { result.now ≡ after_at_sign text.now }
 {
     if byte_at(text, 0) == b'@' {
-        behind_first(text, 1)
+        rest_from(text, 1)
     } else {
         text
     }
 }
 
-/// An operand by a register, and what stands behind it.
-fn register_said(
+/// Reads an operand by a register, with what follows the register.
+fn register_operand(
     side: Side,
     shown_by: Bits,
     size: Size,
-    direct: Behind,
-    indirect: Option<Behind>,
+    direct: Suffix,
+    indirect: Option<Suffix>,
     scope: &Scope<'_>,
     text: &[u8],
 ) -> Result<Instr, AsmKind>
-    ensures { result ≡ slot_said (Slot.Register side shown_by size direct indirect)
+    ensures { result ≡ slot_operand (Slot.Register side shown_by size direct indirect)
         scope.now.0 scope.now.1 text.now }
 {
-    let inner = behind_at(text);
+    let inner = after_at_sign(text);
     let is_indirect = byte_at(text, 0) == b'@';
     if !begins_register(inner) || is_indirect && indirect.is_none() {
         return Err(AsmKind::Operand);
     }
     let number = byte_at(inner, 1) - b'0';
-    let register = adding_register(side, is_indirect, number);
-    let rest = behind_first(inner, 2);
+    let register = register_contribution(side, is_indirect, number);
+    let rest = rest_from(inner, 2);
     if rest.is_empty() {
         return Ok(register);
     }
     let plain = number == 0 && !is_indirect;
-    let allowed = behind(direct, indirect, is_indirect);
-    let n = behind_said(allowed, plain, scope, size, rest)?;
-    Ok(joined(&register, &adding_part(side, shown_by, n)))
+    let allowed = suffix_of(direct, indirect, is_indirect);
+    let n = number_after_register(allowed, plain, scope, size, rest)?;
+    Ok(union_of(&register, &part_contribution(side, shown_by, n)))
 }
 
-/// The word `FLAGS`.
-fn flags_said(text: &[u8]) -> Result<Instr, AsmKind>
-    ensures { result ≡ flags_said text.now }
+/// Reads the word `FLAGS`.
+fn flags_operand(text: &[u8]) -> Result<Instr, AsmKind>
+    ensures { result ≡ flags_operand text.now }
 {
     if is(text, "FLAGS") {
-        Ok(adding(0, 0, 0, 0))
+        Ok(contribution(0, 0, 0, 0))
     } else {
         Err(AsmKind::Operand)
     }
 }
 
-/// The word `FLAGS` or `IP`.
-fn flags_or_ip_said(text: &[u8]) -> Result<Instr, AsmKind>
+/// Reads the word `FLAGS` or `IP`.
+fn flags_or_ip_operand(text: &[u8]) -> Result<Instr, AsmKind>
     ensures { result ≡ (if bytes_eq text.now (codes "IP")
-        then Ok (adding (bits 0 0x10) 0 0) else flags_said text.now) }
+        then Ok (contribution (bits 0 0x10) 0 0) else flags_operand text.now) }
 {
     if is(text, "IP") {
-        return Ok(adding(0, 0x10, 0, 0));
+        return Ok(contribution(0, 0x10, 0, 0));
     }
-    flags_said(text)
+    flags_operand(text)
 }
 
-/// What an operand says in its place.
-pub fn slot_said(slot: Slot, scope: &Scope<'_>, text: &[u8]) -> Result<Instr, AsmKind>
-    ensures { result ≡ slot_said slot scope.now.0 scope.now.1 text.now }
+/// Reads an operand by its place in the table, and answers what it adds to its instruction.
+pub fn slot_operand(slot: Slot, scope: &Scope<'_>, text: &[u8]) -> Result<Instr, AsmKind>
+    ensures { result ≡ slot_operand slot scope.now.0 scope.now.1 text.now }
 {
     match slot {
         Slot::Register {
@@ -239,19 +245,19 @@ pub fn slot_said(slot: Slot, scope: &Scope<'_>, text: &[u8]) -> Result<Instr, As
             size,
             direct,
             indirect,
-        } => register_said(side, shown_by, size, direct, indirect, scope, text),
-        Slot::Flags => flags_said(text),
-        Slot::FlagsOrIp => flags_or_ip_said(text),
-        Slot::Immediate { size } => Ok(adding(0, 0, 0, plain_signed(size, text)?)),
+        } => register_operand(side, shown_by, size, direct, indirect, scope, text),
+        Slot::Flags => flags_operand(text),
+        Slot::FlagsOrIp => flags_or_ip_operand(text),
+        Slot::Immediate { size } => Ok(contribution(0, 0, 0, plain_signed(size, text)?)),
         Slot::ImmediateOrLabel { size } => {
             let n = number_or_label(scope, 1, size, text)?;
-            Ok(adding(0, 0, 0, n))
+            Ok(contribution(0, 0, 0, n))
         }
-        Slot::RawIndex { size } => Ok(adding(0, 0, 0, brackets_said(size, text)?)),
+        Slot::RawIndex { size } => Ok(contribution(0, 0, 0, index_in_brackets(size, text)?)),
         Slot::Step => {
             let n = number_or_label(scope, 2, Size::Byte, text)?;
-            Ok(adding(0, n as u8, 0, 0))
+            Ok(contribution(0, n as u8, 0, 0))
         }
-        Slot::Code => Ok(adding(0, plain_code(text)? as u8, 0, 0)),
+        Slot::Code => Ok(contribution(0, plain_code(text)? as u8, 0, 0)),
     }
 }

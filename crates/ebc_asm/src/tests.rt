@@ -461,7 +461,7 @@ fn driver_entry_is_listed(rt: HostRuntime) {
     );
 }
 
-/// Bytes, the address that they stand at, and their listing.
+/// Bytes, their address, and their listing.
 #[test]
 fn listings(rt: HostRuntime) {
     let vectors: [(&[u8], u64, &str); 8] = [
@@ -479,7 +479,7 @@ fn listings(rt: HostRuntime) {
             0x7FFF_FFFF_FFFF_FFFE,
             "7FFFFFFFFFFFFFFE RET\n",
         ),
-        // Nothing is listed behind the first place where no instruction begins.
+        // Nothing is listed after the first place at which no instruction begins.
         (
             &[0x36, 0x05, 0x27, 0x00, 0x04, 0x00],
             0x400,
@@ -584,14 +584,14 @@ fn labels(rt: HostRuntime) {
     }
 }
 
-/// A line before, another line so many times, and a line behind.
-fn around(alloc: Global, before: &str, count: u32, behind: &str) -> Result<String, OutOfMemory> {
+/// A line before, another line so many times, and a line after.
+fn around(alloc: Global, before: &str, count: u32, after: &str) -> Result<String, OutOfMemory> {
     let mut text = String::new(alloc);
     text.push_str(before)?;
     for _ in 0..count {
         text.push_str("\nRET\n")?;
     }
-    text.push_str(behind)?;
+    text.push_str(after)?;
     Ok(text)
 }
 

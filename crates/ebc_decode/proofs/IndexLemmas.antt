@@ -4,7 +4,7 @@ use Rattle.std.proofs.lemmas.Nat.{div-add-mod'}
 use Rattle.std.proofs.lemmas.Bool.Decides.{nat_tests}
 use Rattle.ebc_decode.specs.NaturalIndex.{is_index_size, natural_bits, distance, greatest_distance}
 
--- all units counted eight bytes each are the most, where all may be natural
+-- all units counted eight bytes each are the most, if all may be natural
 split-le_8 : (u p : ℕ) → 0 < p → u / p + 8 * (u % p) ≤ 8 * u
 split-le_8 u p above =
     let whole : u / p * p + u % p ≡ u = div-add-mod' u p in

@@ -1,4 +1,4 @@
--- What stands in the columns of the instruction table.
+-- The columns of the instruction table.
 -- The modifiers are bits 7 and 6 of the first byte, as a number from 0 to 3. In the second byte
 -- operand 1 is bits 2:0, indirect by bit 3, and operand 2 is bits 6:4, indirect by bit 7.
 use Rattle.std.specs.Prelude.{ℕ, ◌^◌, Bool, true, not, ◌&&◌, ◌||◌, nat_eq, bit_and, List, if◌then◌else◌}
@@ -19,7 +19,7 @@ m6 mods = is_set mods 0
 abbrev pub xi : ℕ → Bool
 xi operands = is_set operands 3
 
--- A row of the table. Where a column depends on the first two bytes it is a function of the
+-- A row of the table. A column that depends on the first two bytes is a function of the
 -- modifiers and of the second byte, as they are written.
 pub record Row : Type 0 where
   -- bits 5:0 of the first byte
@@ -27,7 +27,7 @@ pub record Row : Type 0 where
   pub mnemonic : List ℕ
   -- whether there is such an instruction
   pub legal : ℕ → ℕ → Bool
-  -- how many bytes belong to operand 1, and how many to operand 2 or to an immediate behind them
+  -- how many bytes belong to operand 1, and how many to operand 2 or to an immediate after them
   pub first : ℕ → ℕ → ℕ
   pub second : ℕ → ℕ → ℕ
   -- which of the modifiers count, and which bits of the second byte by the modifiers; the others
@@ -53,15 +53,15 @@ row opcode mnemonic legal first second kept_mods kept_operands =
 abbrev pub always : ℕ → ℕ → Bool
 always mods operands = true
 
--- 64 bits only where there are data
+-- 64 bits only if there are data
 abbrev pub m6_needs_m7 : ℕ → ℕ → Bool
 m6_needs_m7 mods operands = m7 mods || not (m6 mods)
 
--- an index of operand 1 by m7, only where it is indirect
+-- an index of operand 1 by m7, only if it is indirect
 abbrev pub m7_needs_xi : ℕ → ℕ → Bool
 m7_needs_xi mods operands = not (m7 mods) || xi operands
 
--- an index of operand 1 by a bit of the second byte, only where it is indirect
+-- an index of operand 1 by a bit of the second byte, only if it is indirect
 abbrev pub bit_needs_xi : ℕ → ℕ → ℕ → Bool
 bit_needs_xi bit mods operands = not (is_set operands bit) || xi operands
 
@@ -80,7 +80,7 @@ y_is_0_or_1 mods operands = nat_eq (bit_and operands 0x60) 0
 abbrev pub nothing : ℕ → ℕ → ℕ
 nothing mods operands = 0
 
--- so many bytes where the bit is set
+-- so many bytes if the bit is set
 abbrev pub on_m7 : ℕ → ℕ → ℕ → ℕ
 on_m7 size mods operands = if m7 mods then size else 0
 

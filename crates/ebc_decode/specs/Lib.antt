@@ -1,3 +1,4 @@
+pub mod Sizes
 pub mod Columns
 pub mod Spelling
 pub mod NaturalIndex

@@ -99,20 +99,20 @@ HasPartSizes form = IsTrue (is_part_size form.first) × IsTrue (is_part_size for
 abbrev pub row_of : ℕ → Option Row
 row_of op = find (λ r. nat_eq r.opcode op) rows
 
--- a form, where the first two bytes are legal
-abbrev pub form_where : Bool → ℕ → ℕ → ℕ → ℕ → Option Form
-form_where legal first second kept_mods kept_operands =
+-- a form, if the first two bytes are legal
+abbrev pub form_if : Bool → ℕ → ℕ → ℕ → ℕ → Option Form
+form_if legal first second kept_mods kept_operands =
     if legal then Some (record { first = first; second = second; kept_mods = kept_mods; kept_operands = kept_operands }) else None
 
 -- the form that a row gives to the modifiers and the second byte, if they are legal
-abbrev pub form_by : Option Row → ℕ → ℕ → Option Form
-form_by None mods operands = None
-form_by (Some r) mods operands =
-    form_where (r.legal mods operands) (r.first mods operands) (r.second mods operands) r.kept_mods (r.kept_operands mods)
+abbrev pub form_in_row : Option Row → ℕ → ℕ → Option Form
+form_in_row None mods operands = None
+form_in_row (Some r) mods operands =
+    form_if (r.legal mods operands) (r.first mods operands) (r.second mods operands) r.kept_mods (r.kept_operands mods)
 
--- the form of the first two bytes by the table, `None` where they are illegal
-abbrev pub listed_form : ℕ → ℕ → ℕ → Option Form
-listed_form op mods operands = form_by (row_of op) mods operands
+-- the form of the first two bytes by the table, or `None` if they are illegal
+abbrev pub form_in_table : ℕ → ℕ → ℕ → Option Form
+form_in_table op mods operands = form_in_row (row_of op) mods operands
 
 -- the bytes of an instruction whose modifiers and second byte are written so
 abbrev pub spelling : Form → Instr → ℕ → ℕ → List ℕ
@@ -125,7 +125,7 @@ pub record Spells (bytes : List ℕ) (instr : Instr) : Type 0 where
   pub mods : ℕ
   pub operands : ℕ
   pub form : Form
-  pub listed : listed_form instr.op mods operands ≡ Some form
+  pub listed : form_in_table instr.op mods operands ≡ Some form
   pub op_fits : instr.op < 64
   pub mods_fit : mods < 4
   pub operands_fit : operands < 256
@@ -136,9 +136,9 @@ pub record Spells (bytes : List ℕ) (instr : Instr) : Type 0 where
   pub bytes_are : bytes ≡ spelling form instr mods operands
 
 -- what bytes of a form are, by the positions of their parts
-abbrev pub decoded_by : Option Form → List ℕ → Result (Instr × ℕ) DecodeRefusal
-decoded_by None bytes = Err Illegal
-decoded_by (Some form) bytes =
+abbrev pub decoding_by_form : Option Form → List ℕ → Result (Instr × ℕ) DecodeRefusal
+decoding_by_form None bytes = Err Illegal
+decoding_by_form (Some form) bytes =
     let instr : Instr = record {
       op = slice_index bytes 0 % 64;
       mods = bit_and (slice_index bytes 0 / 64) form.kept_mods;
@@ -150,10 +150,10 @@ decoded_by (Some form) bytes =
     if nat_lt (length bytes) size then Err Short else Ok (instr, size)
 
 -- the instruction at the front of the bytes and its length, or the first fault
-abbrev pub decoded : List ℕ → Result (Instr × ℕ) DecodeRefusal
-decoded bytes =
+abbrev pub decoding : List ℕ → Result (Instr × ℕ) DecodeRefusal
+decoding bytes =
     if nat_lt (length bytes) 2 then Err Short
-    else decoded_by (listed_form (slice_index bytes 0 % 64) (slice_index bytes 0 / 64) (slice_index bytes 1)) bytes
+    else decoding_by_form (form_in_table (slice_index bytes 0 % 64) (slice_index bytes 0 / 64) (slice_index bytes 1)) bytes
 
 -- an instruction of a form: its ignored bits are 0, and its two parts fit their sizes
 pub record FitsForm (instr : Instr) (form : Form) : Type 0 where
@@ -167,4 +167,4 @@ pub record FitsForm (instr : Instr) (form : Form) : Type 0 where
 
 -- an instruction as the table has it
 abbrev pub IsInstruction : Instr → Type 0
-IsInstruction instr = IsSomeAnd (listed_form instr.op instr.mods instr.operands) (FitsForm instr)
+IsInstruction instr = IsSomeAnd (form_in_table instr.op instr.mods instr.operands) (FitsForm instr)

@@ -1,5 +1,5 @@
 ghost use Rattle.std.specs.Prelude.{◌≡◌, true, Some, IfSome, IsTrue, if◌then◌else◌};
-ghost use Rattle.ebc_decode.specs.Spelling.{listed_form, form_where, is_part_size, HasPartSizes};
+ghost use Rattle.ebc_decode.specs.Spelling.{form_in_table, form_if, is_part_size, HasPartSizes};
 ghost use Rattle.ebc_decode.specs.Columns.{m6_needs_m7, m7_needs_xi, bit_needs_xi, width_and_bit_needs_xi, on_m7, on_m6, on_bit, jump_32, jump_64, two_or_four, width, both, jump_bits};
 
 /// What an instruction's first two bytes say: how many bytes its two parts have, and which bits of
@@ -17,10 +17,10 @@ pub struct Form {
 }
 
 /// The form of an instruction by its opcode, its modifiers and its second byte, of which ignored
-/// bits may be set, or `None` where these are illegal (UEFI 2.8, chapter 22 'EFI Byte Code Virtual
+/// bits may be set, or `None` if these are illegal (UEFI 2.8, chapter 22 'EFI Byte Code Virtual
 /// Machine', the instruction pages).
 pub fn form_of(op: u8, mods: u8, operands: u8) -> Option<Form>
-    ensures listed { result ≡ listed_form op mods operands }
+    ensures listed { result ≡ form_in_table op mods operands }
     ensures sizes { IfSome result HasPartSizes }
 {
     match op {
@@ -52,7 +52,7 @@ pub fn form_of(op: u8, mods: u8, operands: u8) -> Option<Form>
 /// The form of two bytes alone.
 fn bare_form(kept_mods: u8, kept_operands: u8) -> Form
     ensures sizes { HasPartSizes result }
-    ensures form { Some result ≡ form_where true 0 0 kept_mods kept_operands }
+    ensures form { Some result ≡ form_if true 0 0 kept_mods kept_operands }
 {
     Form {
         first: 0,
@@ -65,7 +65,7 @@ fn bare_form(kept_mods: u8, kept_operands: u8) -> Form
 /// The form of JMP and CALL. With 64 bits the target follows, and there is no operand 1.
 fn jump_form(mods: u8, kept_operands: u8) -> Option<Form>
     ensures sizes { IfSome result HasPartSizes }
-    ensures form { result ≡ form_where (m6_needs_m7 mods 0)
+    ensures form { result ≡ form_if (m6_needs_m7 mods 0)
         (jump_32 mods 0) (jump_64 mods 0) both (jump_bits kept_operands mods) }
 {
     let m7 = mods & 2 != 0;
@@ -91,7 +91,7 @@ fn jump_form(mods: u8, kept_operands: u8) -> Option<Form>
 /// The form of comparisons and arithmetic, with data on operand 2.
 fn data_form(mods: u8, kept_operands: u8) -> Form
     ensures sizes { HasPartSizes result }
-    ensures form { Some result ≡ form_where true 0 (on_m7 2 mods 0) both kept_operands }
+    ensures form { Some result ≡ form_if true 0 (on_m7 2 mods 0) both kept_operands }
 {
     Form {
         first: 0,
@@ -105,7 +105,7 @@ fn data_form(mods: u8, kept_operands: u8) -> Form
 fn move_form(size: u8, mods: u8, operands: u8) -> Option<Form>
     requires { IsTrue (is_part_size size) }
     ensures sizes { IfSome result HasPartSizes }
-    ensures form { result ≡ form_where (m7_needs_xi mods operands)
+    ensures form { result ≡ form_if (m7_needs_xi mods operands)
         (on_m7 size mods operands) (on_m6 size mods operands) both 0xff }
 {
     if mods & 2 != 0 && operands & 8 == 0 {
@@ -122,7 +122,7 @@ fn move_form(size: u8, mods: u8, operands: u8) -> Option<Form>
 /// The form of PUSH and POP, which have one operand.
 fn stack_form(mods: u8, kept_mods: u8) -> Form
     ensures sizes { HasPartSizes result }
-    ensures form { Some result ≡ form_where true (on_m7 2 mods 0) 0 kept_mods 0x0f }
+    ensures form { Some result ≡ form_if true (on_m7 2 mods 0) 0 kept_mods 0x0f }
 {
     Form {
         first: if mods & 2 != 0 { 2 } else { 0 },
@@ -135,7 +135,7 @@ fn stack_form(mods: u8, kept_mods: u8) -> Form
 /// The form of comparisons with an immediate.
 fn compare_form(mods: u8, operands: u8) -> Option<Form>
     ensures sizes { IfSome result HasPartSizes }
-    ensures form { result ≡ form_where (bit_needs_xi 4 mods operands)
+    ensures form { result ≡ form_if (bit_needs_xi 4 mods operands)
         (on_bit 4 2 mods operands) (two_or_four mods operands) both 0x1f }
 {
     if operands & 0x10 != 0 && operands & 8 == 0 {
@@ -152,7 +152,7 @@ fn compare_form(mods: u8, operands: u8) -> Option<Form>
 /// The form of MOVI, MOVIn and MOVREL.
 fn immediate_form(mods: u8, operands: u8, kept_operands: u8) -> Option<Form>
     ensures sizes { IfSome result HasPartSizes }
-    ensures form { result ≡ form_where (width_and_bit_needs_xi 6 mods operands)
+    ensures form { result ≡ form_if (width_and_bit_needs_xi 6 mods operands)
         (on_bit 6 2 mods operands) (width mods operands) both kept_operands }
 {
     let m7 = mods & 2 != 0;

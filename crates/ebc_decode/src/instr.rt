@@ -10,9 +10,9 @@ pub struct Instr {
     pub mods: u8,
     /// The second byte.
     pub operands: u8,
-    /// The index or data of operand 1, or 0 where there are none.
+    /// The index or data of operand 1, or 0 if there are none.
     pub first: u64,
-    /// The index or data of operand 2, or the immediate, or 0 where there are none.
+    /// The index or data of operand 2, or the immediate, or 0 if there are none.
     pub second: u64,
 }
 

@@ -1,6 +1,6 @@
 ghost use Rattle.std.specs.Prelude.{◌≡◌, ◌≤◌, ◌++◌, ℕ, List, length, take, Ok, IfOk, IsTrue};
 ghost use Rattle.byteorder.specs.Endian.{little_number};
-ghost use Rattle.ebc_decode.specs.Spelling.{decoded, is_part_size, IsInstruction, Spells};
+ghost use Rattle.ebc_decode.specs.Spelling.{decoding, is_part_size, IsInstruction, Spells};
 ghost use Rattle.ebc_decode.specs.declared.instr.Instr.{Instr as Instruction};
 
 use crate::form::form_of;
@@ -10,8 +10,11 @@ use byteorder::{ByteOrder, LittleEndian};
 /// The instruction at the front of the bytes, and how many bytes it has: from 2 to 18 (UEFI 2.8,
 /// chapter 22 'EFI Byte Code Virtual Machine'). Bits that it ignores are 0 in the answer.
 ///
-/// `Short` where there are fewer than two bytes; else `Illegal` where the first two begin no
-/// instruction; else `Short` where there are fewer bytes than the instruction has.
+/// # Errors
+///
+/// - `Short` if there are fewer than two bytes.
+/// - `Illegal` if the first two bytes begin no instruction.
+/// - `Short` if there are fewer bytes than the instruction has.
 pub fn decode(bytes: &[u8]) -> Result<(Instr, u8), DecodeRefusal>
     // What is decoded is spelled so.
     ensures found { IfOk result (λ found. Spells (take found.1 bytes.now) found.0) }
@@ -19,7 +22,7 @@ pub fn decode(bytes: &[u8]) -> Result<(Instr, u8), DecodeRefusal>
     ensures only { (spelled rest : List ℕ) (instr : Instruction) → Spells spelled instr →
         bytes.now ≡ spelled ++ rest → result ≡ Ok (instr, length spelled) }
     // Which refusal it is.
-    ensures table { result ≡ decoded bytes.now }
+    ensures table { result ≡ decoding bytes.now }
     // The parts have the sizes that the table gives.
     ensures fits { IfOk result (λ found. IsInstruction found.0) }
     ensures len { IfOk result (λ found.
@@ -28,9 +31,9 @@ pub fn decode(bytes: &[u8]) -> Result<(Instr, u8), DecodeRefusal>
     front_of(bytes)
 }
 
-/// The instruction at the front, by the positions of its parts.
+/// Finds the instruction at the front by the positions of its parts.
 fn front_of(bytes: &[u8]) -> Result<(Instr, u8), DecodeRefusal>
-    ensures table { result ≡ decoded bytes.now }
+    ensures table { result ≡ decoding bytes.now }
     ensures len { IfOk result (λ found.
         (2 ≤ found.1) × (found.1 ≤ 18) × (found.1 ≤ length bytes.now)) }
 {
@@ -57,7 +60,7 @@ fn front_of(bytes: &[u8]) -> Result<(Instr, u8), DecodeRefusal>
     Ok((instr, len))
 }
 
-/// The number in the first bytes, the lowest first.
+/// Reads the number in the first `size` bytes, lowest byte first.
 fn number(bytes: &[u8], size: u8) -> u64
     requires size { IsTrue (is_part_size size) }
     requires within { size ≤ length bytes.now }

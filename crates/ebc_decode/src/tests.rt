@@ -69,7 +69,7 @@ fn refusals_of_decode(rt: HostRuntime) {
     assert_eq!(rt; decode(&[0x41, 0x00]), Err(DecodeRefusal::Illegal));
     assert_eq!(rt; decode(&[0x77]), Err(DecodeRefusal::Short));
     assert_eq!(rt; decode(&[0x77, 0x37, 0x00]), Err(DecodeRefusal::Short));
-    // An index of operand 1 where operand 1 is a register.
+    // An index of operand 1, although operand 1 is a register.
     assert_eq!(rt;
         decode(&[0x9D, 0x21, 0x00, 0x00]),
         Err(DecodeRefusal::Illegal)
@@ -219,7 +219,7 @@ fn refusals_of_encode(rt: HostRuntime) {
     assert!(rt; form_of(0x3A, 0, 0x00).is_none());
 }
 
-/// Every first two bytes, with zeros behind.
+/// Every first two bytes, with zeros after them.
 #[test]
 fn all_first_two_bytes(rt: HostRuntime) {
     let mut legal: u32 = 0;

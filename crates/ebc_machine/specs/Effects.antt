@@ -12,25 +12,26 @@ use Rattle.fw_types.specs.declared.event.Cause.{Cause}
 use Rattle.fw_types.specs.declared.event.Cause.TheVariants.{Illegal, Break}
 use Rattle.guest_memory.specs.declared.segment.Segment.{Segment}
 use Rattle.ebc_machine.specs.Arithmetic.{result_of, holds}
-use Rattle.ebc_machine.specs.Operands.{◌>>=◌, low, plus, above, below, x_of, y_of, is_x_indirect, is_y_indirect, is_wide, operation_size, bytes_of, register, with_register, load, x_address, y_address, operand_1, operand_2, goes_on, to_register, to_memory, result_to, move_to, if_even, jumps, is_c, flagged}
+use Rattle.ebc_machine.specs.Operands.{◌>>=◌, plus, above, below, x_of, y_of, is_x_indirect, is_y_indirect, is_wide, operation_size, register, with_register, load, x_address, y_address, operand_1, operand_2, goes_on, to_register, to_memory, result_to, move_to, if_even, jumps, is_c, with_condition}
+use Rattle.ebc_decode.specs.Sizes.{low, byte_count}
 use Rattle.ebc_machine.specs.declared.arithmetic.Operation.{Operation}
 use Rattle.ebc_machine.specs.declared.arithmetic.Operation.TheVariants.{Not, Neg, Add, Sub, Mul, Mulu, Div, Divu, Mod, Modu, And, Or, Xor, Shl, Shr, Ashr, Extndb, Extndw, Extndd}
 use Rattle.ebc_machine.specs.declared.arithmetic.Relation.{Relation}
 use Rattle.ebc_machine.specs.declared.arithmetic.Relation.TheVariants.{Eq, Lte, Gte, Ulte, Ugte}
 use Rattle.ebc_machine.specs.declared.cpu.Cpu.{Cpu}
 use Rattle.ebc_machine.specs.Plan.{Plan}
-use Rattle.ebc_machine.specs.declared.cpu.Size.{Size}
-use Rattle.ebc_machine.specs.declared.cpu.Size.TheVariants.{Byte, Word, Doubleword, Quadword}
+use Rattle.ebc_decode.specs.declared.size.Size.{Size}
+use Rattle.ebc_decode.specs.declared.size.Size.TheVariants.{Byte, Word, Doubleword, Quadword}
 use Rattle.ebc_machine.specs.declared.cpu.Request.TheVariants.{Nothing, Native, MakeThunk}
 
 -- What an instruction does: the registers after it, at most one write, and what it asks
--- for, or why it traps. The last argument is the address behind the instruction, "next".
+-- for, or why it traps. The last argument is the address after the instruction, "next".
 abbrev pub Effect : Type 0
 Effect = Cpu → List Segment → Instr → ℕ → Result Plan Cause
 
 -- ---- BREAK, jumps and calls
 
--- Code 1 puts the version into R7, 5 asks for a thunk for what stands at R7, and 3, 4 and 6 do nothing.
+-- Code 1 puts the version into R7, 5 asks for a thunk for the 8 bytes at the address in R7, and 3, 4 and 6 do nothing.
 abbrev pub break : Effect
 break cpu segments instr next =
     if nat_eq instr.operands 1 then Ok (to_register cpu next 7 0x10000)
@@ -42,7 +43,7 @@ break cpu segments instr next =
 abbrev pub is_taken : Cpu → Bool → Bool → Bool
 is_taken cpu conditional wanted = if conditional then (if wanted then is_c cpu else not (is_c cpu)) else true
 
--- the base of a 32-bit target, where R0 stands for 0
+-- the base of a 32-bit target, for which R0 counts as 0
 abbrev pub base_of : Cpu → Instr → ℕ
 base_of cpu instr = if nat_eq (x_of instr) 0 then 0 else register cpu (x_of instr)
 
@@ -81,13 +82,13 @@ call cpu segments instr next = do
       else if_even target (to_memory (with_register cpu 0 (below (register cpu 0) 16)) target (below (register cpu 0) 16) Quadword next)
 
 -- The target is read at R0, which rises by 16.
-abbrev pub returned : Cpu → List Segment → Result Plan Cause
-returned cpu segments = do
+abbrev pub return_plan : Cpu → List Segment → Result Plan Cause
+return_plan cpu segments = do
   target ← load segments (register cpu 0) Quadword
   jumps (with_register cpu 0 (above (register cpu 0) 16)) target
 
 abbrev pub return : Effect
-return cpu segments instr next = returned cpu segments
+return cpu segments instr next = return_plan cpu segments
 
 -- ---- comparisons and arithmetic
 
@@ -95,7 +96,7 @@ abbrev pub compare : Relation → Effect
 compare relation cpu segments instr next = do
   b ← operand_2 cpu segments instr
   let size = operation_size (is_wide instr)
-  Ok (flagged cpu next (holds relation (is_wide instr) (low size (register cpu (x_of instr))) (low size b)))
+  Ok (with_condition cpu next (holds relation (is_wide instr) (low size (register cpu (x_of instr))) (low size b)))
 
 -- operand 1 only takes the result
 abbrev pub unary : Operation → Effect
@@ -113,40 +114,40 @@ binary operation cpu segments instr next = do
   Ok (result_to cpu instr next value)
 
 -- operand 1 of a comparison with an immediate, which has an index
-abbrev pub compared : Cpu → List Segment → Instr → Result ℕ Cause
-compared cpu segments instr =
+abbrev pub compare_operand : Cpu → List Segment → Instr → Result ℕ Cause
+compare_operand cpu segments instr =
     if is_x_indirect instr then load segments (x_address cpu instr 2) (operation_size (is_wide instr))
     else Ok (register cpu (x_of instr))
 
 -- The immediate is signed.
 abbrev pub compare_immediate : Relation → Effect
 compare_immediate relation cpu segments instr next = do
-  a ← compared cpu segments instr
+  a ← compare_operand cpu segments instr
   let size = operation_size (is_wide instr)
   let b = cast_unsigned w64 (twos_complement (two_or_four instr.mods 0) instr.second)
-  Ok (flagged cpu next (holds relation (is_wide instr) (low size a) (low size b)))
+  Ok (with_condition cpu next (holds relation (is_wide instr) (low size a) (low size b)))
 
 -- ---- moves
 
 -- operand 2 of a move of so many bytes, with an index of so many bytes
-abbrev pub moved : Size → ℕ → Cpu → List Segment → Instr → Result ℕ Cause
-moved size index cpu segments instr =
+abbrev pub move_operand : Size → ℕ → Cpu → List Segment → Instr → Result ℕ Cause
+move_operand size index cpu segments instr =
     if is_y_indirect instr then load segments (y_address cpu instr index) size else Ok (y_address cpu instr index)
 
 abbrev pub move : Size → ℕ → Effect
 move size index cpu segments instr next = do
-  value ← moved size index cpu segments instr
+  value ← move_operand size index cpu segments instr
   Ok (move_to cpu instr next index size value)
 
--- The same for 8 bytes, where the index of a direct operand 2 is a signed number.
-abbrev pub moved_signed : ℕ → Cpu → List Segment → Instr → Result ℕ Cause
-moved_signed index cpu segments instr =
+-- The same for 8 bytes, if the index of a direct operand 2 is a signed number.
+abbrev pub signed_move_operand : ℕ → Cpu → List Segment → Instr → Result ℕ Cause
+signed_move_operand index cpu segments instr =
     if is_y_indirect instr then load segments (y_address cpu instr index) Quadword
     else Ok (plus (register cpu (y_of instr)) (twos_complement index instr.second))
 
 abbrev pub move_signed : ℕ → Effect
 move_signed index cpu segments instr next = do
-  value ← moved_signed index cpu segments instr
+  value ← signed_move_operand index cpu segments instr
   Ok (move_to cpu instr next index Quadword value)
 
 -- how many bytes MOVI moves, by bits 5:4
@@ -173,7 +174,7 @@ abbrev pub load_special : Effect
 load_special cpu segments instr next =
     Ok (goes_on (record { r = cpu.r; flags = register cpu (y_of instr) % 4; ip = cpu.ip }) next Nothing)
 
--- Operand 1 takes FLAGS, or next where operand 2 is 1.
+-- Operand 1 takes FLAGS, or next if operand 2 is 1.
 abbrev pub store_special : Effect
 store_special cpu segments instr next =
     Ok (to_register cpu next (x_of instr) (if nat_eq (y_of instr) 0 then cpu.flags else next))
@@ -181,16 +182,16 @@ store_special cpu segments instr next =
 -- ---- the stack
 
 -- the value of operand 1 that is pushed
-abbrev pub pushed : Size → Cpu → List Segment → Instr → Result ℕ Cause
-pushed size cpu segments instr =
+abbrev pub push_operand : Size → Cpu → List Segment → Instr → Result ℕ Cause
+push_operand size cpu segments instr =
     if is_x_indirect instr then load segments (x_address cpu instr 2) size
     else Ok (plus (register cpu (x_of instr)) (twos_complement 2 instr.first))
 
 -- The value is read, then R0 falls, then the value is put there.
 abbrev pub push : Size → Effect
 push size cpu segments instr next = do
-  value ← pushed size cpu segments instr
-  let top = below (register cpu 0) (bytes_of size)
+  value ← push_operand size cpu segments instr
+  let top = below (register cpu 0) (byte_count size)
   Ok (to_memory (with_register cpu 0 top) next top size value)
 
 -- The value is read at R0, then R0 rises, then operand 1 takes the value: a register takes it with its
@@ -198,12 +199,12 @@ push size cpu segments instr next = do
 abbrev pub pop_to : Size → Cpu → Instr → ℕ → ℕ → Plan
 pop_to size cpu instr next value =
     if is_x_indirect instr then to_memory cpu next (x_address cpu instr 2) size value
-    else to_register cpu next (x_of instr) (plus (cast_unsigned w64 (twos_complement (bytes_of size) value)) (twos_complement 2 instr.first))
+    else to_register cpu next (x_of instr) (plus (cast_unsigned w64 (twos_complement (byte_count size) value)) (twos_complement 2 instr.first))
 
 abbrev pub pop : Size → Effect
 pop size cpu segments instr next = do
   value ← load segments (register cpu 0) size
-  Ok (pop_to size (with_register cpu 0 (above (register cpu 0) (bytes_of size))) instr next value)
+  Ok (pop_to size (with_register cpu 0 (above (register cpu 0) (byte_count size))) instr next value)
 
 -- PUSH and POP have 32 or 64 bits.
 abbrev pub push_operation : Effect
@@ -280,10 +281,10 @@ effects =
     ∷ (0x39, move_relative)
     ∷ []
 
--- what an instruction does by the table, where an opcode without a row is illegal
+-- what an instruction does by the table; an opcode without a row is illegal
 abbrev pub effect_in : Option Effect → Effect
 effect_in None cpu segments instr next = Err Illegal
 effect_in (Some effect) cpu segments instr next = effect cpu segments instr next
 
-abbrev pub planned : Effect
-planned cpu segments instr next = effect_in (lookup (nat_eq instr.op) effects) cpu segments instr next
+abbrev pub plan_of_instr : Effect
+plan_of_instr cpu segments instr next = effect_in (lookup (nat_eq instr.op) effects) cpu segments instr next

@@ -5,15 +5,16 @@ use Rattle.std.specs.Int.{cast_unsigned, w64}
 use Rattle.byteorder.specs.Endian.{twos_complement}
 use Rattle.ebc_decode.specs.Columns.{is_set, m6}
 use Rattle.ebc_decode.specs.NaturalIndex.{natural_value}
+use Rattle.ebc_decode.specs.Sizes.{byte_count, low}
 use Rattle.ebc_decode.specs.declared.instr.Instr.{Instr}
 use Rattle.fw_types.specs.declared.event.Cause.{Cause}
 use Rattle.fw_types.specs.declared.event.Cause.TheVariants.{Memory, Align}
-use Rattle.guest_memory.specs.GuestMemory.{loaded}
+use Rattle.guest_memory.specs.GuestMemory.{number_of}
 use Rattle.guest_memory.specs.declared.segment.Segment.{Segment}
 use Rattle.ebc_machine.specs.declared.cpu.Cpu.{Cpu}
 use Rattle.ebc_machine.specs.Plan.{Plan}
-use Rattle.ebc_machine.specs.declared.cpu.Size.{Size}
-use Rattle.ebc_machine.specs.declared.cpu.Size.TheVariants.{Byte, Word, Doubleword, Quadword}
+use Rattle.ebc_decode.specs.declared.size.Size.{Size}
+use Rattle.ebc_decode.specs.declared.size.Size.TheVariants.{Doubleword, Quadword}
 use Rattle.ebc_machine.specs.declared.cpu.Request.{Request}
 use Rattle.ebc_machine.specs.declared.cpu.Request.TheVariants.{Nothing}
 
@@ -23,17 +24,7 @@ abbrev pub ◌>>=◌ : {A B : Type 0} → Result A Cause → (A → Result B Cau
 (Ok x) >>= f = f x
 (Err cause) >>= f = Err cause
 
--- ---- sizes and sums
-
-abbrev pub bytes_of : Size → ℕ
-bytes_of Byte = 1
-bytes_of Word = 2
-bytes_of Doubleword = 4
-bytes_of Quadword = 8
-
--- the lowest bytes of a number
-abbrev pub low : Size → ℕ → ℕ
-low size value = value % 256 ^ bytes_of size
+-- ---- sums
 
 -- sums and differences wrap in 64 bits
 abbrev pub plus : ℕ → ℤ → ℕ
@@ -81,9 +72,9 @@ at_address cpu ip = record { r = cpu.r; flags = cpu.flags; ip = ip }
 
 -- the number in memory
 abbrev pub load : List Segment → ℕ → Size → Result ℕ Cause
-load segments at size = ok_or (loaded segments at (bytes_of size)) Memory
+load segments at size = ok_or (number_of segments at (byte_count size)) Memory
 
--- where operand 1 and operand 2 are in memory, with an index of so many bytes
+-- the addresses of operands 1 and 2 in memory, with an index of so many bytes
 abbrev pub x_address : Cpu → Instr → ℕ → ℕ
 x_address cpu instr index = plus (register cpu (x_of instr)) (natural_value instr.first index)
 
@@ -142,6 +133,6 @@ abbrev pub is_c : Cpu → Bool
 is_c cpu = is_set cpu.flags 0
 
 -- C takes the outcome of a comparison, and the other flags stay
-abbrev pub flagged : Cpu → ℕ → Bool → Plan
-flagged cpu next c =
+abbrev pub with_condition : Cpu → ℕ → Bool → Plan
+with_condition cpu next c =
     goes_on (record { r = cpu.r; flags = cpu.flags / 2 * 2 + (if c then 1 else 0); ip = cpu.ip }) next Nothing

@@ -1,4 +1,4 @@
--- What a step comes to that ends with a request.
+-- How a step ends whose instruction makes a request.
 use Rattle.ebc_machine.specs.declared.cpu.Request.{Request}
 use Rattle.ebc_machine.specs.declared.cpu.Request.TheVariants.{Nothing, Native as CallNative, MakeThunk as WantThunk}
 use Rattle.ebc_machine.specs.declared.cpu.StepOut.{StepOut}

@@ -12,10 +12,11 @@ pub record Plan : Type 0 where
   pub store : Option Store
   pub request : Request
 
--- the plan of registers that are done, and of what is left then
+-- the plan whose registers are computed, with what is left to do
 abbrev pub with_rest : Cpu → Rest → Plan
 with_rest cpu rest = record { cpu = cpu; store = rest.store; request = rest.request }
 
-abbrev pub told : Cpu → Result Rest Cause → Result Plan Cause
-told cpu (Ok rest) = Ok (with_rest cpu rest)
-told cpu (Err cause) = Err cause
+-- the same, or the cause of a trap
+abbrev pub plan_result : Cpu → Result Rest Cause → Result Plan Cause
+plan_result cpu (Ok rest) = Ok (with_rest cpu rest)
+plan_result cpu (Err cause) = Err cause

@@ -1,5 +1,6 @@
 ghost use Rattle.std.specs.Prelude.{◌≡◌};
 
+use ebc_decode::Size;
 use fw_types::Cause;
 
 /// The registers of the virtual machine (UEFI 2.8, chapter 22, 'Virtual Machine Architecture').
@@ -13,36 +14,36 @@ pub struct Cpu {
     pub ip: u64,
 }
 
-/// What a step comes to.
+/// How a step ended.
 #[derive(Clone, Copy, Debug, PartialEq, Eq)]
 pub enum StepOut {
     /// The instruction is done.
     Next,
-    /// The instruction is done, and the native code at the address is to be called.
+    /// The instruction is done, and asks for a call of the native code at the address.
     Native(u64),
-    /// The instruction is done, and a thunk is to be made for what stands at the address.
+    /// The instruction is done, and asks for a thunk for the 8 bytes at the address.
     MakeThunk(u64),
-    /// The code has come to the exit address.
+    /// IP is the exit address: the code has returned.
     Done,
-    /// The instruction can't be done. Registers and memory are as before.
+    /// The instruction can't be done. Registers and memory are as they were.
     Trap(Cause),
 }
 
-/// What an instruction asks for when it is done.
+/// What an instruction asks the firmware for when it is done.
 #[derive(Clone, Copy, Debug, PartialEq, Eq)]
 pub enum Request {
-    /// Nothing: the code goes on.
+    /// It asks for nothing, and the code goes on.
     Nothing,
-    /// A call of the native code at the address.
+    /// It asks for a call of the native code at the address.
     Native(u64),
-    /// A thunk for what stands at the address.
+    /// It asks for a thunk for the 8 bytes at the address.
     MakeThunk(u64),
 }
 
 impl Request {
     ghost use Rattle.ebc_machine.specs.Outcome.{outcome};
 
-    /// What a step comes to that ends with the request.
+    /// How a step ends whose instruction makes the request.
     pub fn outcome(self) -> StepOut
         ensures { result ≡ outcome self }
     {
@@ -54,16 +55,7 @@ impl Request {
     }
 }
 
-/// How many bytes a move or an operation has.
-#[derive(Clone, Copy, Debug, PartialEq, Eq)]
-pub enum Size {
-    Byte,
-    Word,
-    Doubleword,
-    Quadword,
-}
-
-/// A write that an instruction ends with: the lowest bytes of a value at an address.
+/// The write at the end of an instruction: the lowest bytes of a value go to an address.
 #[derive(Clone, Copy, Debug, PartialEq, Eq)]
 pub struct Store {
     pub at: u64,
@@ -71,7 +63,8 @@ pub struct Store {
     pub value: u64,
 }
 
-/// What is left of an instruction whose registers are done: at most one write, and what it asks for.
+/// What is left of an instruction after its registers are computed: at most one write, and a
+/// request.
 #[derive(Clone, Copy, Debug, PartialEq, Eq)]
 pub struct Rest {
     pub store: Option<Store>,

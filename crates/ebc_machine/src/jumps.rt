@@ -1,22 +1,22 @@
 ghost use Rattle.std.specs.Prelude.{◌≡◌, ◌<◌, ◌^◌, []};
 ghost use Rattle.ebc_decode.specs.Columns.{is_set, jump_32};
-ghost use Rattle.ebc_machine.specs.Plan.{told};
-ghost use Rattle.ebc_machine.specs.Effects.{is_taken, base_of, plain_target, target_of, break, jump, jump_8, call, returned};
+ghost use Rattle.ebc_machine.specs.Plan.{plan_result};
+ghost use Rattle.ebc_machine.specs.Effects.{is_taken, base_of, plain_target, target_of, break, jump, jump_8, call, return_plan};
 
-use crate::cpu::{Cpu, Request, Rest, Size, Store};
+use crate::cpu::{Cpu, Request, Rest, Store};
 use crate::operands::{
     goes_on, has_m6, has_m7, is_c, is_x_indirect, jumps, load, signed, to_memory, to_register, x_of,
 };
-use ebc_decode::{Instr, natural};
+use ebc_decode::{Instr, Size, natural};
 use fw_types::Cause;
 use guest_memory::GuestMem;
 
-/// The version that BREAK 1 tells.
+/// The version of the virtual machine that BREAK 1 reports.
 const VERSION: u64 = 0x1_0000;
 
-/// BREAK.
+/// Executes BREAK.
 pub fn run_break(cpu: &mut Cpu, instr: &Instr, next: u64) -> Result<Rest, Cause>
-    ensures { told cpu.new result ≡ break cpu.old [] instr.now next }
+    ensures { plan_result cpu.new result ≡ break cpu.old [] instr.now next }
 {
     match instr.operands {
         1 => Ok(to_register(cpu, next, 7, VERSION)),
@@ -29,7 +29,7 @@ pub fn run_break(cpu: &mut Cpu, instr: &Instr, next: u64) -> Result<Rest, Cause>
     }
 }
 
-/// JMP with 32 or 64 bits.
+/// Executes JMP with 32 or 64 bits.
 pub fn run_jump<M: GuestMem>(
     cpu: &mut Cpu,
     mem: &M,
@@ -37,7 +37,7 @@ pub fn run_jump<M: GuestMem>(
     next: u64,
 ) -> Result<Rest, Cause>
     requires { instr.now.first < 256 ^ jump_32 instr.now.mods 0 }
-    ensures { told cpu.new result ≡ jump cpu.old (M.segments mem.now) instr.now next }
+    ensures { plan_result cpu.new result ≡ jump cpu.old (M.segments mem.now) instr.now next }
 {
     let conditional = instr.operands & 0x80 != 0;
     let wanted = instr.operands & 0x40 != 0;
@@ -49,9 +49,9 @@ pub fn run_jump<M: GuestMem>(
     }
 }
 
-/// JMP8.
+/// Executes JMP8.
 pub fn run_jump_8(cpu: &mut Cpu, instr: &Instr, next: u64) -> Result<Rest, Cause>
-    ensures { told cpu.new result ≡ jump_8 cpu.old [] instr.now next }
+    ensures { plan_result cpu.new result ≡ jump_8 cpu.old [] instr.now next }
 {
     if is_taken(cpu, has_m7(instr), has_m6(instr)) {
         let units = i64::from(instr.operands.cast_signed());
@@ -61,7 +61,7 @@ pub fn run_jump_8(cpu: &mut Cpu, instr: &Instr, next: u64) -> Result<Rest, Cause
     }
 }
 
-/// CALL.
+/// Executes CALL.
 pub fn run_call<M: GuestMem>(
     cpu: &mut Cpu,
     mem: &M,
@@ -69,7 +69,7 @@ pub fn run_call<M: GuestMem>(
     next: u64,
 ) -> Result<Rest, Cause>
     requires { instr.now.first < 256 ^ jump_32 instr.now.mods 0 }
-    ensures { told cpu.new result ≡ call cpu.old (M.segments mem.now) instr.now next }
+    ensures { plan_result cpu.new result ≡ call cpu.old (M.segments mem.now) instr.now next }
 {
     let target = target_of(cpu, mem, instr, next)?;
     if instr.operands & 0x20 != 0 {
@@ -88,9 +88,9 @@ pub fn run_call<M: GuestMem>(
     Ok(to_memory(cpu, target, store))
 }
 
-/// RET.
+/// Executes RET.
 pub fn run_return<M: GuestMem>(cpu: &mut Cpu, mem: &M) -> Result<Rest, Cause>
-    ensures { told cpu.new result ≡ returned cpu.old (M.segments mem.now) }
+    ensures { plan_result cpu.new result ≡ return_plan cpu.old (M.segments mem.now) }
 {
     let target = load(mem, cpu.r[0], Size::Quadword)?;
     cpu.r[0] = cpu.r[0].wrapping_add(16);
@@ -121,7 +121,7 @@ fn target_of<M: GuestMem>(cpu: &Cpu, mem: &M, instr: &Instr, next: u64) -> Resul
     }
 }
 
-/// The target of JMP and CALL before the address behind the instruction is added.
+/// The target of JMP and CALL before the address after the instruction is added.
 fn plain_target<M: GuestMem>(cpu: &Cpu, mem: &M, instr: &Instr) -> Result<u64, Cause>
     requires { instr.now.first < 256 ^ jump_32 instr.now.mods 0 }
     ensures { result ≡ plain_target cpu.now (M.segments mem.now) instr.now }
@@ -138,7 +138,7 @@ fn plain_target<M: GuestMem>(cpu: &Cpu, mem: &M, instr: &Instr) -> Result<u64, C
     }
 }
 
-/// The base of a 32-bit target.
+/// The base of a 32-bit target, for which R0 counts as 0.
 fn base_of(cpu: &Cpu, instr: &Instr) -> u64
     ensures { result ≡ base_of cpu.now instr.now }
 {

@@ -1,8 +1,13 @@
-//! One step of EBC over any guest memory: the registers, what a step comes to, and `step` (UEFI
-//! 2.8, chapter 22 'EFI Byte Code Virtual Machine').
+//! One step of EBC over any guest memory (UEFI 2.8, chapter 22 'EFI Byte Code Virtual Machine').
 //!
-//! An instruction is done on a copy of the registers first, and what is left of it is answered: at most
-//! one write, and what it asks for. `step` alone changes anything, so a trap leaves all as it was.
+//! `Cpu` has the registers, `step` runs the instruction at IP, and `StepOut` says how it ended.
+//! `laws` has what holds of every step.
+//!
+//! `run` fetches and decodes the instruction and chooses its function by the opcode: these are in
+//! `jumps`, `operations` (comparisons and arithmetic) and `moves`. Such a function works on a copy
+//! of the registers and answers what is left to do: at most one write, and a request to the
+//! firmware. Only then does `step` write to memory and replace the registers, so a trap leaves
+//! both as they were.
 #![tactic(auto)]
 
 mod arithmetic;
@@ -17,7 +22,7 @@ mod run;
 mod wide;
 
 pub use cpu::{Cpu, StepOut};
-pub use run::{EXIT, step};
+pub use run::step;
 
 #[cfg(test)]
 mod tests;

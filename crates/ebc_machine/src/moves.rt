@@ -3,20 +3,20 @@ ghost use Rattle.std.specs.Int.{cast_unsigned, w64};
 ghost use Rattle.byteorder.specs.Endian.{twos_complement};
 ghost use Rattle.ebc_decode.specs.Columns.{on_m7, on_m6, on_bit, width};
 ghost use Rattle.ebc_decode.specs.NaturalIndex.{is_index_size, natural_value};
-ghost use Rattle.ebc_machine.specs.Operands.{bytes_of};
-ghost use Rattle.ebc_machine.specs.Plan.{told, with_rest};
-ghost use Rattle.ebc_machine.specs.Effects.{move, moved, move_signed, moved_signed, size_by, move_immediate, move_natural, move_relative, load_special, store_special, push, pushed, pop, pop_to};
+ghost use Rattle.ebc_decode.specs.Sizes.{byte_count};
+ghost use Rattle.ebc_machine.specs.Plan.{plan_result, with_rest};
+ghost use Rattle.ebc_machine.specs.Effects.{move, move_operand, move_signed, signed_move_operand, size_by, move_immediate, move_natural, move_relative, load_special, store_special, push, push_operand, pop, pop_to};
 
-use crate::cpu::{Cpu, Request, Rest, Size, Store};
+use crate::cpu::{Cpu, Request, Rest, Store};
 use crate::operands::{
     goes_on, has_m6, has_m7, is_x_indirect, is_y_indirect, load, move_to, signed, to_memory,
     to_register, x_address, x_of, y_address, y_of,
 };
-use ebc_decode::{Instr, natural};
+use ebc_decode::{Instr, Size, natural};
 use fw_types::Cause;
 use guest_memory::GuestMem;
 
-/// A move of `size` bytes, with indices of `index` bytes.
+/// Executes a move of `size`, with indices of `index` bytes.
 #[inline(always)]
 pub fn run_move<M: GuestMem>(
     cpu: &mut Cpu,
@@ -29,14 +29,15 @@ pub fn run_move<M: GuestMem>(
     requires index { IsTrue (is_index_size index) }
     requires first { instr.now.first < 256 ^ on_m7 index instr.now.mods 0 }
     requires second { instr.now.second < 256 ^ on_m6 index instr.now.mods 0 }
-    ensures { told cpu.new result ≡ move size index cpu.old (M.segments mem.now) instr.now next }
+    ensures { plan_result cpu.new result
+        ≡ move size index cpu.old (M.segments mem.now) instr.now next }
 {
-    let value = moved(cpu, mem, instr, size, index)?;
+    let value = move_operand(cpu, mem, instr, size, index)?;
     Ok(move_to(cpu, instr, next, index, size, value))
 }
 
 /// Operand 2 of a move.
-fn moved<M: GuestMem>(
+fn move_operand<M: GuestMem>(
     cpu: &Cpu,
     mem: &M,
     instr: &Instr,
@@ -45,7 +46,7 @@ fn moved<M: GuestMem>(
 ) -> Result<u64, Cause>
     requires index { IsTrue (is_index_size index) }
     requires second { instr.now.second < 256 ^ index }
-    ensures { result ≡ moved size index cpu.now (M.segments mem.now) instr.now }
+    ensures { result ≡ move_operand size index cpu.now (M.segments mem.now) instr.now }
 {
     let from = y_address(cpu, instr, index);
     if is_y_indirect(instr) {
@@ -55,7 +56,7 @@ fn moved<M: GuestMem>(
     }
 }
 
-/// A move of 8 bytes, in which the index of a direct operand 2 is a signed number.
+/// Executes a move of 8 bytes, in which the index of a direct operand 2 is a signed number.
 pub fn run_move_signed<M: GuestMem>(
     cpu: &mut Cpu,
     mem: &M,
@@ -66,17 +67,23 @@ pub fn run_move_signed<M: GuestMem>(
     requires index { IsTrue (is_index_size index) }
     requires first { instr.now.first < 256 ^ on_m7 index instr.now.mods 0 }
     requires second { instr.now.second < 256 ^ on_m6 index instr.now.mods 0 }
-    ensures { told cpu.new result ≡ move_signed index cpu.old (M.segments mem.now) instr.now next }
+    ensures { plan_result cpu.new result
+        ≡ move_signed index cpu.old (M.segments mem.now) instr.now next }
 {
-    let value = moved_signed(cpu, mem, instr, index)?;
+    let value = signed_move_operand(cpu, mem, instr, index)?;
     Ok(move_to(cpu, instr, next, index, Size::Quadword, value))
 }
 
-/// Operand 2 of such a move.
-fn moved_signed<M: GuestMem>(cpu: &Cpu, mem: &M, instr: &Instr, index: u8) -> Result<u64, Cause>
+/// Operand 2 of a move whose direct index is a signed number.
+fn signed_move_operand<M: GuestMem>(
+    cpu: &Cpu,
+    mem: &M,
+    instr: &Instr,
+    index: u8,
+) -> Result<u64, Cause>
     requires index { IsTrue (is_index_size index) }
     requires second { instr.now.second < 256 ^ index }
-    ensures { result ≡ moved_signed index cpu.now (M.segments mem.now) instr.now }
+    ensures { result ≡ signed_move_operand index cpu.now (M.segments mem.now) instr.now }
 {
     if is_y_indirect(instr) {
         load(mem, y_address(cpu, instr, index), Size::Quadword)
@@ -85,11 +92,11 @@ fn moved_signed<M: GuestMem>(cpu: &Cpu, mem: &M, instr: &Instr, index: u8) -> Re
     }
 }
 
-/// MOVI.
+/// Executes MOVI.
 pub fn run_move_immediate(cpu: &mut Cpu, instr: &Instr, next: u64) -> Result<Rest, Cause>
     requires first { instr.now.first < 256 ^ on_bit 6 2 0 instr.now.operands }
     requires second { instr.now.second < 256 ^ width instr.now.mods 0 }
-    ensures { told cpu.new result ≡ move_immediate cpu.old [] instr.now next }
+    ensures { plan_result cpu.new result ≡ move_immediate cpu.old [] instr.now next }
 {
     let value = signed(instr.second, immediate_size(instr));
     Ok(move_to(
@@ -97,33 +104,33 @@ pub fn run_move_immediate(cpu: &mut Cpu, instr: &Instr, next: u64) -> Result<Res
         instr,
         next,
         2,
-        moved_size(instr),
+        immediate_move_size(instr),
         value.cast_unsigned(),
     ))
 }
 
-/// MOVIn.
+/// Executes MOVIn.
 pub fn run_move_natural(cpu: &mut Cpu, instr: &Instr, next: u64) -> Result<Rest, Cause>
     requires first { instr.now.first < 256 ^ on_bit 6 2 0 instr.now.operands }
     requires second { instr.now.second < 256 ^ width instr.now.mods 0 }
-    ensures { told cpu.new result ≡ move_natural cpu.old [] instr.now next }
+    ensures { plan_result cpu.new result ≡ move_natural cpu.old [] instr.now next }
 {
     let value = natural(instr.second, immediate_size(instr));
     Ok(move_to(cpu, instr, next, 2, Size::Quadword, value.cast_unsigned()))
 }
 
-/// MOVREL.
+/// Executes MOVREL.
 pub fn run_move_relative(cpu: &mut Cpu, instr: &Instr, next: u64) -> Result<Rest, Cause>
     requires first { instr.now.first < 256 ^ on_bit 6 2 0 instr.now.operands }
     requires second { instr.now.second < 256 ^ width instr.now.mods 0 }
-    ensures { told cpu.new result ≡ move_relative cpu.old [] instr.now next }
+    ensures { plan_result cpu.new result ≡ move_relative cpu.old [] instr.now next }
 {
     let by = signed(instr.second, immediate_size(instr));
     let value = next.wrapping_add_signed(by);
     Ok(move_to(cpu, instr, next, 2, Size::Quadword, value))
 }
 
-/// The number of bytes of a moved immediate.
+/// The number of bytes of the immediate of a move.
 fn immediate_size(instr: &Instr) -> u8
     ensures value { result ≡ width instr.now.mods 0 }
     ensures size { IsTrue (is_index_size result) }
@@ -135,8 +142,8 @@ fn immediate_size(instr: &Instr) -> u8
     }
 }
 
-/// The number of bytes that an immediate moves.
-fn moved_size(instr: &Instr) -> Size
+/// The size of what MOVI moves.
+fn immediate_move_size(instr: &Instr) -> Size
     ensures { result ≡ size_by (instr.now.operands / 16 % 4) }
 {
     match instr.operands / 16 % 4 {
@@ -147,23 +154,23 @@ fn moved_size(instr: &Instr) -> Size
     }
 }
 
-/// LOADSP.
+/// Executes LOADSP.
 pub fn run_load_special(cpu: &mut Cpu, instr: &Instr, next: u64) -> Result<Rest, Cause>
-    ensures { told cpu.new result ≡ load_special cpu.old [] instr.now next }
+    ensures { plan_result cpu.new result ≡ load_special cpu.old [] instr.now next }
 {
     cpu.flags = cpu.r[y_of(instr)] % 4;
     Ok(goes_on(cpu, next, Request::Nothing))
 }
 
-/// STORESP.
+/// Executes STORESP.
 pub fn run_store_special(cpu: &mut Cpu, instr: &Instr, next: u64) -> Result<Rest, Cause>
-    ensures { told cpu.new result ≡ store_special cpu.old [] instr.now next }
+    ensures { plan_result cpu.new result ≡ store_special cpu.old [] instr.now next }
 {
     let value = if y_of(instr) == 0 { cpu.flags } else { next };
     Ok(to_register(cpu, next, x_of(instr), value))
 }
 
-/// PUSH and PUSHn.
+/// Executes PUSH and PUSHn.
 #[inline(always)]
 pub fn run_push<M: GuestMem>(
     cpu: &mut Cpu,
@@ -173,18 +180,18 @@ pub fn run_push<M: GuestMem>(
     size: Size,
 ) -> Result<Rest, Cause>
     requires { instr.now.first < 256 ^ on_m7 2 instr.now.mods 0 }
-    ensures { told cpu.new result ≡ push size cpu.old (M.segments mem.now) instr.now next }
+    ensures { plan_result cpu.new result ≡ push size cpu.old (M.segments mem.now) instr.now next }
 {
-    let value = pushed(cpu, mem, instr, size)?;
-    let at = cpu.r[0].wrapping_sub(u64::from(size.bytes()));
+    let value = push_operand(cpu, mem, instr, size)?;
+    let at = cpu.r[0].wrapping_sub(u64::from(size.byte_count()));
     cpu.r[0] = at;
     Ok(to_memory(cpu, next, Store { at, size, value }))
 }
 
-/// The value that is pushed.
-fn pushed<M: GuestMem>(cpu: &Cpu, mem: &M, instr: &Instr, size: Size) -> Result<u64, Cause>
+/// The value of operand 1 that PUSH puts on the stack.
+fn push_operand<M: GuestMem>(cpu: &Cpu, mem: &M, instr: &Instr, size: Size) -> Result<u64, Cause>
     requires { instr.now.first < 256 ^ 2 }
-    ensures { result ≡ pushed size cpu.now (M.segments mem.now) instr.now }
+    ensures { result ≡ push_operand size cpu.now (M.segments mem.now) instr.now }
 {
     if is_x_indirect(instr) {
         load(mem, x_address(cpu, instr, 2), size)
@@ -193,7 +200,7 @@ fn pushed<M: GuestMem>(cpu: &Cpu, mem: &M, instr: &Instr, size: Size) -> Result<
     }
 }
 
-/// POP and POPn, of 4 or 8 bytes.
+/// Executes POP and POPn, of 4 or 8 bytes.
 #[inline(always)]
 pub fn run_pop<M: GuestMem>(
     cpu: &mut Cpu,
@@ -202,27 +209,27 @@ pub fn run_pop<M: GuestMem>(
     next: u64,
     size: Size,
 ) -> Result<Rest, Cause>
-    requires size { IsTrue (is_index_size (bytes_of size)) }
+    requires size { IsTrue (is_index_size (byte_count size)) }
     requires first { instr.now.first < 256 ^ on_m7 2 instr.now.mods 0 }
-    ensures { told cpu.new result ≡ pop size cpu.old (M.segments mem.now) instr.now next }
+    ensures { plan_result cpu.new result ≡ pop size cpu.old (M.segments mem.now) instr.now next }
 {
     let value = load(mem, cpu.r[0], size)?;
-    cpu.r[0] = cpu.r[0].wrapping_add(u64::from(size.bytes()));
+    cpu.r[0] = cpu.r[0].wrapping_add(u64::from(size.byte_count()));
     Ok(pop_to(cpu, instr, next, size, value))
 }
 
-/// Operand 1 of POP takes the value.
+/// Puts the value from the stack into operand 1 of POP.
 fn pop_to(cpu: &mut Cpu, instr: &Instr, next: u64, size: Size, value: u64) -> Rest
-    requires size { IsTrue (is_index_size (bytes_of size)) }
+    requires size { IsTrue (is_index_size (byte_count size)) }
     requires first { instr.now.first < 256 ^ 2 }
-    requires value { value < 256 ^ bytes_of size }
+    requires value { value < 256 ^ byte_count size }
     ensures { with_rest cpu.new result ≡ pop_to size cpu.old instr.now next value }
 {
     if is_x_indirect(instr) {
         let at = x_address(cpu, instr, 2);
         to_memory(cpu, next, Store { at, size, value })
     } else {
-        let extended = signed(value, size.bytes()).cast_unsigned();
+        let extended = signed(value, size.byte_count()).cast_unsigned();
         let sum = extended.wrapping_add_signed(signed(instr.first, 2));
         to_register(cpu, next, x_of(instr), sum)
     }

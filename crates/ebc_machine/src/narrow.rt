@@ -5,7 +5,7 @@ use crate::arithmetic::{Operation, Relation};
 use fw_types::Cause;
 
 impl Operation {
-    /// The result of 32 bits on operand 1 and operand 2. `Divide` where it divides by 0.
+    /// The 32-bit result on operands 1 and 2. The cause of a trap is `Divide`, if it divides by 0.
     pub fn of_32_bits(self, a: u32, b: u32) -> Result<u32, Cause>
         ensures { result ≡ result_of self false a b }
     {
@@ -51,7 +51,7 @@ impl Operation {
 }
 
 impl Relation {
-    /// Whether operand 1 and operand 2 of 32 bits are so related.
+    /// Whether operand 1 and operand 2 of 32 bits are in the relation.
     pub fn of_32_bits(self, a: u32, b: u32) -> bool
         ensures { result ≡ holds self false a b }
     {

@@ -3,56 +3,30 @@ ghost use Rattle.byteorder.specs.Endian.{twos_complement};
 ghost use Rattle.ebc_decode.specs.Columns.{is_set, m6, m7};
 ghost use Rattle.ebc_decode.specs.NaturalIndex.{is_index_size};
 ghost use Rattle.guest_memory.specs.Segment.{is_access};
-ghost use Rattle.ebc_machine.specs.Operands.{bytes_of, low, x_of, y_of, is_x_indirect, is_y_indirect, is_wide, operation_size, load, x_address, y_address, operand_1, operand_2, goes_on, to_register, to_memory, result_to, move_to, jumps, is_c, flagged};
-ghost use Rattle.ebc_machine.specs.Plan.{told, with_rest};
+ghost use Rattle.ebc_machine.specs.Operands.{x_of, y_of, is_x_indirect, is_y_indirect, is_wide, operation_size, load, x_address, y_address, operand_1, operand_2, goes_on, to_register, to_memory, result_to, move_to, jumps, is_c, with_condition};
+ghost use Rattle.ebc_decode.specs.Sizes.{byte_count, low};
+ghost use Rattle.ebc_machine.specs.Plan.{plan_result, with_rest};
 
-use crate::cpu::{Cpu, Request, Rest, Size, Store};
-use ebc_decode::{Instr, natural};
+use crate::cpu::{Cpu, Request, Rest, Store};
+use ebc_decode::{Instr, Size, natural};
 use fw_types::Cause;
 use guest_memory::GuestMem;
 
-impl Size {
-    /// The number of bytes.
-    pub fn bytes(self) -> u8
-        ensures value { result ≡ bytes_of self }
-        ensures access { IsTrue (is_access result) }
-    {
-        match self {
-            Size::Byte => 1,
-            Size::Word => 2,
-            Size::Doubleword => 4,
-            Size::Quadword => 8,
-        }
-    }
-
-    /// The lowest bytes of a number.
-    pub fn low(self, value: u64) -> u64
-        ensures { result ≡ low self value }
-    {
-        match self {
-            Size::Byte => value % 0x100,
-            Size::Word => value % 0x1_0000,
-            Size::Doubleword => value % 0x1_0000_0000,
-            Size::Quadword => value,
-        }
-    }
-}
-
-/// Bit 7 of the first byte.
+/// Whether bit 7 of the first byte is set.
 pub fn has_m7(instr: &Instr) -> bool
     ensures { result ≡ m7 instr.now.mods }
 {
     instr.mods & 2 != 0
 }
 
-/// Bit 6 of the first byte.
+/// Whether bit 6 of the first byte is set.
 pub fn has_m6(instr: &Instr) -> bool
     ensures { result ≡ m6 instr.now.mods }
 {
     instr.mods & 1 != 0
 }
 
-/// The register of operand 1.
+/// The number of the register of operand 1.
 pub fn x_of(instr: &Instr) -> usize
     ensures value { result ≡ x_of instr.now }
     ensures small { result < 8 }
@@ -60,7 +34,7 @@ pub fn x_of(instr: &Instr) -> usize
     (instr.operands % 8) as usize
 }
 
-/// The register of operand 2.
+/// The number of the register of operand 2.
 pub fn y_of(instr: &Instr) -> usize
     ensures value { result ≡ y_of instr.now }
     ensures small { result < 8 }
@@ -82,7 +56,7 @@ pub fn is_y_indirect(instr: &Instr) -> bool
     instr.operands & 0x80 != 0
 }
 
-/// How many bytes an operation of 64 or of 32 bits has.
+/// The size of an operation of 64 or of 32 bits.
 pub fn operation_size(wide: bool) -> Size
     ensures { result ≡ operation_size wide }
 {
@@ -93,7 +67,7 @@ pub fn operation_size(wide: bool) -> Size
     }
 }
 
-/// The value of a number of so many bytes in two's complement.
+/// The value of a number of `size` bytes in two's complement.
 pub fn signed(raw: u64, size: u8) -> i64
     requires size { IsTrue (is_index_size size) }
     requires fits { raw < 256 ^ size }
@@ -106,18 +80,18 @@ pub fn signed(raw: u64, size: u8) -> i64
     }
 }
 
-/// The number in memory. `Memory` where no one segment has all its bytes.
+/// Reads a number from memory. The cause of a trap is `Memory`, if no segment has all its bytes.
 pub fn load<M: GuestMem>(mem: &M, at: u64, size: Size) -> Result<u64, Cause>
     ensures value { result ≡ load (M.segments mem.now) at size }
-    ensures fits { IfOk result (λ value. value < 256 ^ bytes_of size) }
+    ensures fits { IfOk result (λ value. value < 256 ^ byte_count size) }
 {
-    match mem.read(at, size.bytes()) {
+    match mem.read(at, size.byte_count()) {
         Some(value) => Ok(value),
         None => Err(Cause::Memory),
     }
 }
 
-/// Where operand 1 is in memory, with an index of so many bytes.
+/// The address of operand 1 in memory, with an index of `index` bytes.
 pub fn x_address(cpu: &Cpu, instr: &Instr, index: u8) -> u64
     requires size { IsTrue (is_index_size index) }
     requires fits { instr.now.first < 256 ^ index }
@@ -126,7 +100,7 @@ pub fn x_address(cpu: &Cpu, instr: &Instr, index: u8) -> u64
     cpu.r[x_of(instr)].wrapping_add_signed(natural(instr.first, index))
 }
 
-/// Where operand 2 is in memory, with an index of so many bytes.
+/// The address of operand 2 in memory, with an index of `index` bytes.
 pub fn y_address(cpu: &Cpu, instr: &Instr, index: u8) -> u64
     requires size { IsTrue (is_index_size index) }
     requires fits { instr.now.second < 256 ^ index }
@@ -159,7 +133,7 @@ pub fn operand_2<M: GuestMem>(cpu: &Cpu, mem: &M, instr: &Instr) -> Result<u64, 
     }
 }
 
-/// The code goes on at an address, with a request.
+/// Lets the code go on at an address, with a request.
 pub fn goes_on(cpu: &mut Cpu, ip: u64, request: Request) -> Rest
     ensures { with_rest cpu.new result ≡ goes_on cpu.old ip request }
 {
@@ -170,7 +144,7 @@ pub fn goes_on(cpu: &mut Cpu, ip: u64, request: Request) -> Rest
     }
 }
 
-/// A register takes a value.
+/// Puts a value into a register.
 pub fn to_register(cpu: &mut Cpu, next: u64, register: usize, value: u64) -> Rest
     requires { register < 8 }
     ensures { with_rest cpu.new result ≡ to_register cpu.old next register value }
@@ -179,7 +153,7 @@ pub fn to_register(cpu: &mut Cpu, next: u64, register: usize, value: u64) -> Res
     goes_on(cpu, next, Request::Nothing)
 }
 
-/// Memory takes the lowest bytes of a value.
+/// Leaves a write to be done.
 pub fn to_memory(cpu: &mut Cpu, next: u64, store: Store) -> Rest
     ensures { with_rest cpu.new result ≡ to_memory cpu.old next store.at store.size store.value }
 {
@@ -190,7 +164,7 @@ pub fn to_memory(cpu: &mut Cpu, next: u64, store: Store) -> Rest
     }
 }
 
-/// Operand 1 of an operation takes its result.
+/// Puts the result of an operation into operand 1.
 pub fn result_to(cpu: &mut Cpu, instr: &Instr, next: u64, value: u64) -> Rest
     ensures { with_rest cpu.new result ≡ result_to cpu.old instr.now next value }
 {
@@ -204,7 +178,7 @@ pub fn result_to(cpu: &mut Cpu, instr: &Instr, next: u64, value: u64) -> Rest
     }
 }
 
-/// Operand 1 of a move, with an index of so many bytes, takes a value.
+/// Puts a value into operand 1 of a move, with an index of `index` bytes.
 pub fn move_to(cpu: &mut Cpu, instr: &Instr, next: u64, index: u8, size: Size, value: u64) -> Rest
     requires size { IsTrue (is_index_size index) }
     requires fits { instr.now.first < 256 ^ index }
@@ -218,9 +192,9 @@ pub fn move_to(cpu: &mut Cpu, instr: &Instr, next: u64, index: u8, size: Size, v
     }
 }
 
-/// A jump. `Align` where its target is odd.
+/// Jumps to a target. The cause of a trap is `Align`, if the target is odd.
 pub fn jumps(cpu: &mut Cpu, target: u64) -> Result<Rest, Cause>
-    ensures { told cpu.new result ≡ jumps cpu.old target }
+    ensures { plan_result cpu.new result ≡ jumps cpu.old target }
 {
     if target % 2 == 0 {
         Ok(goes_on(cpu, target, Request::Nothing))
@@ -229,16 +203,16 @@ pub fn jumps(cpu: &mut Cpu, target: u64) -> Result<Rest, Cause>
     }
 }
 
-/// The condition flag.
+/// Whether the condition flag C is set.
 pub fn is_c(cpu: &Cpu) -> bool
     ensures { result ≡ is_c cpu.now }
 {
     cpu.flags & 1 != 0
 }
 
-/// The condition flag takes the outcome of a comparison.
-pub fn flagged(cpu: &mut Cpu, next: u64, c: bool) -> Rest
-    ensures { with_rest cpu.new result ≡ flagged cpu.old next c }
+/// Puts the outcome of a comparison into the condition flag C.
+pub fn with_condition(cpu: &mut Cpu, next: u64, c: bool) -> Rest
+    ensures { with_rest cpu.new result ≡ with_condition cpu.old next c }
 {
     cpu.flags = cpu.flags / 2 * 2 + if c { 1 } else { 0 };
     goes_on(cpu, next, Request::Nothing)

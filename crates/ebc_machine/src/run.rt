@@ -1,11 +1,11 @@
 ghost use Rattle.std.specs.Prelude.{◌≡◌, IfOk, IsErr, OnErr};
 ghost use Rattle.ebc_decode.specs.Spelling.{IsInstruction};
-ghost use Rattle.ebc_machine.specs.Effects.{planned};
-ghost use Rattle.ebc_machine.specs.Plan.{told, with_rest};
+ghost use Rattle.ebc_machine.specs.Effects.{plan_of_instr};
+ghost use Rattle.ebc_machine.specs.Plan.{plan_result, with_rest};
 ghost use Rattle.ebc_machine.specs.Step.{stepped, ended, plan_of};
 
 use crate::arithmetic::{Operation, Relation};
-use crate::cpu::{Cpu, Rest, Size, StepOut};
+use crate::cpu::{Cpu, Rest, StepOut};
 use crate::jumps::{run_break, run_call, run_jump, run_jump_8, run_return};
 use crate::moves::{
     run_load_special, run_move, run_move_immediate, run_move_natural, run_move_relative,
@@ -13,23 +13,26 @@ use crate::moves::{
 };
 use crate::operands::{has_m6, operation_size};
 use crate::operations::{run_binary, run_compare, run_compare_immediate, run_unary};
-use ebc_decode::{DecodeRefusal, Instr, decode};
+use ebc_decode::{DecodeRefusal, Instr, Size, decode};
 use fw_types::{Cause, OutOfMemory};
+use guest_memory::address_map::EXIT;
 use guest_memory::{GuestMem, MemRefusal};
-
-/// The exit address, at which a call of the code is over.
-pub const EXIT: u64 = 0x24000;
 
 /// One step of EBC (UEFI 2.8, chapter 22 'EFI Byte Code Virtual Machine').
 ///
-/// `Done` where IP is the exit address: nothing changes. Else the instruction at IP is done, and IP
-/// is behind it or at the target of its jump: `Next`, or `Native` or `MakeThunk` where it asks for
-/// more than registers and memory. `Trap` where it can't be done; registers and memory are then as
-/// before. The cause is `Fetch` where no image has the whole instruction, else `Illegal` where the
-/// bytes are none, else the first that the instruction meets: it reads its operands, divides, tests
-/// its target and writes, in this order.
+/// If IP is the exit address, nothing changes and the answer is `Done`. Otherwise the instruction
+/// at IP is executed, and IP is then the address after it or the target of its jump. The answer is
+/// `Next`, or `Native` or `MakeThunk` if the instruction asks the firmware for something.
 ///
-/// `OutOfMemory` only where writing to this memory may run out; nothing has changed then.
+/// The answer is `Trap` if the instruction can't be executed. Registers and memory are then as they
+/// were. The cause is `Fetch` if no image has the whole instruction, and `Illegal` if the bytes
+/// are no instruction. Otherwise it is the first cause that the instruction meets as it reads its
+/// operands, divides, tests the target of a jump, and writes, in this order.
+///
+/// # Errors
+///
+/// `OutOfMemory` only if a write to this kind of memory may need more memory. Nothing has changed
+/// then.
 pub fn step<M: GuestMem>(cpu: &mut Cpu, mem: &mut M) -> Result<StepOut, OutOfMemory>
     ensures step { IfOk result (λ out. stepped cpu.old (M.segments mem.old)
         ≡ record { out = out; cpu = cpu.new; segments = M.segments mem.new }) }
@@ -47,10 +50,10 @@ pub fn step<M: GuestMem>(cpu: &mut Cpu, mem: &mut M) -> Result<StepOut, OutOfMem
     }
 }
 
-/// Does the instruction at IP on registers, and answers what is left of it. Where it traps, the registers
-/// are left half done.
+/// Executes the instruction at IP on the registers, and answers what is left of it. If it traps,
+/// the registers may be half changed.
 fn next_rest<M: GuestMem>(cpu: &mut Cpu, mem: &M) -> Result<Rest, Cause>
-    ensures { told cpu.new result ≡ plan_of cpu.old (M.segments mem.now) }
+    ensures { plan_result cpu.new result ≡ plan_of cpu.old (M.segments mem.now) }
 {
     let mut bytes = [0u8; 18];
     let count = mem.fetch(cpu.ip, &mut bytes);
@@ -64,10 +67,11 @@ fn next_rest<M: GuestMem>(cpu: &mut Cpu, mem: &M) -> Result<Rest, Cause>
     }
 }
 
-/// What an instruction does, by its opcode.
+/// Executes an instruction on the registers, by its opcode.
 fn run<M: GuestMem>(cpu: &mut Cpu, mem: &M, instr: &Instr, next: u64) -> Result<Rest, Cause>
     requires { IsInstruction instr.now }
-    ensures { told cpu.new result ≡ planned cpu.old (M.segments mem.now) instr.now next }
+    ensures { plan_result cpu.new result
+        ≡ plan_of_instr cpu.old (M.segments mem.now) instr.now next }
 {
     match instr.op {
         0x00 => run_break(cpu, instr, next),
@@ -130,21 +134,22 @@ fn run<M: GuestMem>(cpu: &mut Cpu, mem: &M, instr: &Instr, next: u64) -> Result<
     }
 }
 
-/// Ends an instruction: its write, which may be refused, and then its registers.
+/// Finishes an instruction: first its write, which may be refused, and then its registers.
 fn carry_out<M: GuestMem>(
     cpu: &mut Cpu,
     mem: &mut M,
     after: &Cpu,
     rest: &Rest,
 ) -> Result<StepOut, OutOfMemory>
-    ensures step { IfOk result (λ out. ended cpu.old (M.segments mem.old) (with_rest after.now rest.now) rest.now.store
+    ensures step { IfOk result (λ out.
+        ended cpu.old (M.segments mem.old) (with_rest after.now rest.now) rest.now.store
         ≡ record { out = out; cpu = cpu.new; segments = M.segments mem.new }) }
     ensures rest { mem.new ≡ M.with_segments mem.old (M.segments mem.new) }
     ensures memory { IsErr result → M.may_run_out }
     ensures err { OnErr result ((cpu.new ≡ cpu.old) × (M.segments mem.new ≡ M.segments mem.old)) }
 {
     if let Some(store) = rest.store {
-        match mem.write(store.at, store.size.bytes(), store.value) {
+        match mem.write(store.at, store.size.byte_count(), store.value) {
             Ok(()) => {}
             Err(MemRefusal::OutOfMemory) => return Err(OutOfMemory),
             Err(_) => return Ok(StepOut::Trap(Cause::Memory)),

@@ -1,5 +1,6 @@
-use crate::{Cpu, EXIT, StepOut, step};
+use crate::{Cpu, StepOut, step};
 use fw_types::Cause;
+use guest_memory::address_map::EXIT;
 use guest_memory::{GuestMem, Memory, SegKind};
 use std::process::Abort;
 use std::test::Fail;
@@ -36,7 +37,7 @@ fn machine_with(rt: &impl AllocGlobal, code: &[u8], r1: u64, r2: u64) -> Result<
     Ok(Machine { cpu, memory })
 }
 
-/// R1 after an instruction that goes on behind itself and changes no other register.
+/// R1 after an instruction that is followed by the next one and changes no other register.
 fn r1_after(rt: &(impl AllocGlobal + Abort), code: &[u8], r1: u64, r2: u64) -> Result<u64, Fail> {
     let mut machine = machine_with(rt, code, r1, r2)?;
     assert_eq!(rt; step(&mut machine.cpu, &mut machine.memory)?, StepOut::Next);
@@ -301,7 +302,7 @@ fn stack(rt: HostRuntime) -> Result<(), Fail> {
             8,
             0x0807_0605_0403_0201,
         ),
-        // POP64 R1(2), and POP64 @R0, where R0 has risen
+        // POP64 R1(2), and POP64 @R0, after R0 has risen
         (
             &[0xEC, 0x01, 0x02, 0x00],
             0,
@@ -353,7 +354,7 @@ fn jumps(rt: HostRuntime) -> Result<(), Fail> {
             CODE + 8,
             TOP,
         ),
-        // an odd target; one that can't be read; and the same where C is not as wanted
+        // an odd target; one that can't be read; and the same if C is not as wanted
         (
             &[0x01, 0x01],
             0,
@@ -413,7 +414,7 @@ fn jumps(rt: HostRuntime) -> Result<(), Fail> {
         machine.memory.write(TOP, 8, 0x4004)?;
         assert_eq!(rt; step(&mut machine.cpu, &mut machine.memory)?, out);
         assert_eq!(rt; (machine.cpu.ip, machine.cpu.r[0]), (ip, r0));
-        // CALL puts the address behind itself there
+        // CALL puts the address after itself there
         let put = if r0 == TOP - 16 { CODE + 2 } else { 0 };
         assert_eq!(rt; machine.memory.read(TOP - 16, 8), Some(put));
     }
@@ -437,7 +438,7 @@ fn traps(rt: HostRuntime) -> Result<(), Fail> {
         (&[0xA0, 0x21, 0, 0], 0, 0, Cause::Illegal),
         (&[0x27, 0x00], 0, 0, Cause::Illegal),
         (&[0x4C], 0, 0, Cause::Fetch),
-        // an immediate that ends behind the image
+        // an immediate that ends after the image
         (&[0x77, 0x31, 0x00], 0, 0, Cause::Fetch),
         (&[], 0, 0, Cause::Fetch),
     ];

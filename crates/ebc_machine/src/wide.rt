@@ -5,7 +5,7 @@ use crate::arithmetic::{Operation, Relation};
 use fw_types::Cause;
 
 impl Operation {
-    /// The result of 64 bits on operand 1 and operand 2. `Divide` where it divides by 0.
+    /// The 64-bit result on operands 1 and 2. The cause of a trap is `Divide`, if it divides by 0.
     pub fn of_64_bits(self, a: u64, b: u64) -> Result<u64, Cause>
         ensures { result ≡ result_of self true a b }
     {
@@ -53,7 +53,7 @@ impl Operation {
 }
 
 impl Relation {
-    /// Whether operand 1 and operand 2 of 64 bits are so related.
+    /// Whether operand 1 and operand 2 of 64 bits are in the relation.
     pub fn of_64_bits(self, a: u64, b: u64) -> bool
         ensures { result ≡ holds self true a b }
     {

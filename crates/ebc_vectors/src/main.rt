@@ -6,31 +6,25 @@
 //! run that differs, and last how many there are.
 #![tactic(auto)]
 
+mod comparison;
 mod run;
 
-use crate::run::Run;
+use crate::comparison::report_of;
 use anyhow::{Context, Result};
 use std::fs;
 use std::rt::Files;
+
+#[cfg(test)]
+mod tests;
 
 fn main(rt: HostRuntime) -> Result<()> {
     compare_all(&rt)
 }
 
-/// Does every run of the file.
+/// Compares every run of the file, and prints the report.
 fn compare_all<R: Files + AllocGlobal + Print>(rt: &R) -> Result<()> {
     let text = fs::read_to_string(rt, "step.txt").context("reading step.txt")?;
-    let mut runs: u64 = 0;
-    let mut differ: u64 = 0;
-    for line in text.as_str().lines() {
-        let run = Run::of(line).context("a line without eight fields")?;
-        runs = runs.wrapping_add(1);
-        if !run.agrees(rt.alloc())? {
-            differ = differ.wrapping_add(1);
-            let id = run.id;
-            println!(rt; "{id}")?;
-        }
-    }
-    println!(rt; "{runs} runs, {differ} differ")?;
+    let report = report_of(rt.alloc(), text.as_str())?;
+    print!(rt; "{report}")?;
     Ok(())
 }

@@ -1,26 +1,29 @@
 ghost use Rattle.std.specs.Prelude.{◌<◌, IfOk};
 
 use anyhow::{Context, Result};
-use ebc_machine::{Cpu, EXIT, StepOut, step};
+use ebc_machine::{Cpu, StepOut, step};
+use guest_memory::address_map::EXIT;
 use guest_memory::{GuestMem, Memory, SegKind};
 use std::alloc::Global;
 
-/// Where the code lies, and where the data.
+/// The address of the code.
 const CODE: u64 = 0x200_0000;
 
+/// The address of the data.
 const DATA: u64 = 0x1_0000_0000;
 
-/// The stack of a call, and the frame on it, which begins with the exit address.
+/// The address of the stack of a call, and its size in bytes.
 const STACK: u64 = 0x81_0000;
 
 const STACK_SIZE: usize = 0x1_0000;
 
+/// The address of the frame of the call, which begins with the exit address.
 const FRAME: u64 = 0x81_FF70;
 
 /// The most instructions of a run.
 const MOST_STEPS: u32 = 1000;
 
-/// One run: the code, and the state before and after it.
+/// One run: its id, the code, and the state before and after it.
 #[derive(Clone, Copy)]
 pub struct Run<'a> {
     pub id: &'a str,
@@ -29,7 +32,7 @@ pub struct Run<'a> {
     pub after: State<'a>,
 }
 
-/// Registers, FLAGS and data, as they are written.
+/// Registers, FLAGS and data, as the line writes them.
 #[derive(Clone, Copy)]
 pub struct State<'a> {
     pub registers: &'a str,
@@ -38,7 +41,7 @@ pub struct State<'a> {
 }
 
 impl<'a> Run<'a> {
-    /// The run of a line.
+    /// Reads the run of a line, if it has eight fields.
     pub fn of(line: &'a str) -> Option<Run<'a>> {
         let mut fields = line.split('|');
         let id = fields.next()?;
@@ -61,7 +64,7 @@ impl<'a> Run<'a> {
         })
     }
 
-    /// Whether the code comes from the one state to the other.
+    /// Whether the code, run from the state before, leaves the state after.
     pub fn agrees(&self, alloc: Global) -> Result<bool> {
         let mut memory = self.memory(alloc)?;
         let mut cpu = self.cpu()?;
@@ -98,7 +101,7 @@ impl<'a> Run<'a> {
         })
     }
 
-    /// Steps to the end of the code, and says whether it is met.
+    /// Steps until IP is at the end of the code, and says whether it came there.
     fn is_done(&self, cpu: &mut Cpu, memory: &mut Memory) -> Result<bool> {
         let end = CODE.wrapping_add(self.code.len() as u64 / 2);
         for _ in 0..MOST_STEPS {
@@ -113,7 +116,7 @@ impl<'a> Run<'a> {
     }
 }
 
-/// The bytes of a text of two hexadecimal digits each.
+/// The bytes of a text with two hexadecimal digits for each.
 fn bytes_of(alloc: Global, text: &str) -> Result<Vec<u8>> {
     let mut bytes = Vec::new(alloc);
     for pair in text.as_bytes().chunks_exact(2) {
@@ -135,7 +138,7 @@ fn digit_of(digit: u8) -> Result<u8>
     }
 }
 
-/// Registers from `first` on, parted by blanks.
+/// The registers from `first` on, parted by blanks.
 fn registers_of(text: &str, first: usize) -> Result<[u64; 8]> {
     let mut r = [0; 8];
     let mut words = text.split(' ');

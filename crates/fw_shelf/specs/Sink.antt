@@ -1,10 +1,16 @@
--- What a sink has taken.
-use Rattle.std.specs.Prelude.{◌≡◌, ◌<◌, ℕ, List, ◌++◌, Option, option_map, length, take}
+-- The bytes that a sink has taken.
+use Rattle.std.specs.Prelude.{◌≡◌, ◌<◌, ℕ, List, ◌++◌, Option, Some, None, option_map, length, refl, take}
+use Rattle.std.proofs.Common.{ap, append_assoc}
 
--- what is taken after these bytes too, where it is told
+-- the bytes taken after these bytes too, if they are known
 abbrev pub with_bytes : Option (List ℕ) → List ℕ → Option (List ℕ)
 with_bytes taken bytes = option_map (λ before. before ++ bytes) taken
 
--- a front of the piece was taken, and not all of it
-abbrev pub TakesPrefix : Option (List ℕ) → List ℕ → Option (List ℕ) → Type 0
-TakesPrefix old piece new = (n : ℕ) × (n < length piece) × (new ≡ with_bytes old (take n piece))
+-- bytes and then bytes are their concatenation
+pub with_bytes-again : (taken : Option (List ℕ)) (xs ys : List ℕ) → with_bytes (with_bytes taken xs) ys ≡ with_bytes taken (xs ++ ys)
+with_bytes-again None xs ys = refl
+with_bytes-again (Some before) xs ys = ap Some (append_assoc before xs ys)
+
+-- a prefix of the piece was taken, and not all of it
+abbrev pub TakesProperPrefix : Option (List ℕ) → List ℕ → Option (List ℕ) → Type 0
+TakesProperPrefix old piece new = (n : ℕ) × (n < length piece) × (new ≡ with_bytes old (take n piece))

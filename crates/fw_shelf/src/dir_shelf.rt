@@ -1,9 +1,10 @@
-ghost use Rattle.std.specs.Prelude.{⊤, ◌≡◌, ◌≤◌, None, IsErrOf, if◌then◌else◌};
-ghost use Rattle.fw_shelf.specs.Faults.{Rose, counted};
+ghost use Rattle.std.specs.Prelude.{◌≡◌, ◌≤◌, None, refl, IsErrOf, if◌then◌else◌};
+ghost use Rattle.fw_shelf.specs.Faults.{IsNotFallen, IsNotFallen-again, IsNotFallen-le, IsNotFallen-same, Rose, next_count};
 ghost use Rattle.fw_shelf.specs.Shelf.{is_failed};
-ghost use Rattle.fw_shelf.specs.DirShelf.{OpensAs, ToldByReader};
+ghost use Rattle.fw_shelf.specs.DirShelf.{GivesRest, OpensAs};
 
-use crate::shelf::{LONGEST, Shelf, ShelfFault};
+use crate::shelf::{Shelf, ShelfFault};
+use fw_types::MOST_FILE_BYTES;
 use std::alloc::Global;
 use std::io::Read;
 use std::marker::Model;
@@ -13,11 +14,14 @@ use std::{fs, io};
 /// How many bytes one read of a file asks for at most.
 const CHUNK: usize = 65_536;
 
+/// One byte more than the longest file has.
+const TOO_MANY: usize = MOST_FILE_BYTES as usize + 1;
+
 /// The runtime's files. A name is a path from the folder in which the program was started.
 ///
-/// There is no file where opening it says that it is not found. A file is too long once one byte
-/// more than [`LONGEST`] came. Any other error of the runtime is a failure, which is counted up to
-/// 2^64 - 1. A contract sees the count alone, and knows nothing of the files.
+/// There is no file if opening it says that it is not found. A file is too long if more than 16 MiB
+/// of it can be read. Any other error of the runtime is a failure. Failures are counted up to
+/// 2^64 - 1. A contract sees only the count, and knows nothing of the files.
 #[derive(Drop)]
 pub struct DirShelf<R: Files + Drop> {
     rt: R,
@@ -33,7 +37,7 @@ impl<R: Files + Drop> Model for DirShelf<R> {
 }
 
 impl<R: Files + Drop> DirShelf<R> {
-    /// The files of this runtime, with no fault yet.
+    /// The files of this runtime, with a count of faults of 0.
     pub fn new(rt: R) -> DirShelf<R>
         ensures { result ≡ 0 }
     {
@@ -42,18 +46,23 @@ impl<R: Files + Drop> DirShelf<R> {
 }
 
 impl<R: Files + Drop> Shelf for DirShelf<R> {
-    ghost held = { λ _. None };
+    ghost files = { λ _. None };
 
     ghost faults = { λ shelf. shelf };
 
-    ghost becomes = { λ _ _. ⊤ };
+    ghost becomes = { IsNotFallen };
 
-    ghost becomes_same = { λ _. tt };
+    ghost becomes_same = { IsNotFallen-same };
 
-    ghost becomes_again = { λ _ _ _ _ _. tt };
+    ghost becomes_again = { IsNotFallen-again };
+
+    ghost becomes_files = { λ _ _ _. refl };
+
+    ghost becomes_faults = { IsNotFallen-le };
 
     fn read(&mut self, alloc: Global, name: &str) -> Result<Option<Vec<u8>>, ShelfFault>
-        ensures counted { self.new ≡ (if is_failed result then counted self.old else self.old) }
+        ensures fault_count { self.new
+            ≡ (if is_failed result then next_count self.old else self.old) }
         ensures failed { IsErrOf result ShelfFault.Failed → Rose self.old self.new }
         ensures faults { self.old ≤ self.new }
     {
@@ -65,33 +74,47 @@ impl<R: Files + Drop> Shelf for DirShelf<R> {
     }
 }
 
-/// The bytes of the file under `name`, or `None` where there is none.
+/// The bytes of the file under `name`, or `None` if there is no such file.
+///
+/// # Errors
+///
+/// `Failed` if the runtime fails, `TooLong` if the file has more than 16 MiB, and `OutOfMemory` if
+/// there is no memory for the bytes.
 fn read_file<R: Files>(rt: &R, alloc: Global, name: &str) -> Result<Option<Vec<u8>>, ShelfFault> {
-    match found(fs::open(rt, name))? {
+    match file_if_found(fs::open(rt, name))? {
         Some(mut file) => read_bytes(alloc, &mut file),
         None => Ok(None),
     }
 }
 
-/// The file that was opened, or `None` where opening it says that it is not found.
-fn found<F>(opened: io::Result<F>) -> Result<Option<F>, ShelfFault>
-    ensures { OpensAs opened result }
+/// The file that was opened, or `None` if opening it says that it is not found.
+///
+/// # Errors
+///
+/// `Failed` if opening it ends with any other error.
+fn file_if_found<F>(opening: io::Result<F>) -> Result<Option<F>, ShelfFault>
+    ensures { OpensAs opening result }
 {
-    match opened {
+    match opening {
         Ok(file) => Ok(Some(file)),
         Err(error) if error.kind() == io::ErrorKind::NotFound => Ok(None),
         Err(_) => Err(ShelfFault::Failed),
     }
 }
 
-/// The bytes that a reader has left. It asks for one byte past the longest file, and for no more.
+/// The bytes that a reader has left. It asks for at most one byte more than the longest file has.
+///
+/// # Errors
+///
+/// `Failed` if a read fails, `TooLong` if there are more than 16 MiB, and `OutOfMemory` if there is
+/// no memory for the bytes.
 fn read_bytes<F: Read>(alloc: Global, file: &mut F) -> Result<Option<Vec<u8>>, ShelfFault>
-    ensures { ToldByReader (F.remaining file.old) result }
+    ensures { GivesRest (F.remaining file.old) result }
 {
     let mut bytes = Vec::new(alloc);
     let mut buffer = [0u8; CHUNK];
-    'chunks: while bytes.len() <= LONGEST {
-        let wanted = CHUNK.min(LONGEST + 1 - bytes.len());
+    'chunks: while bytes.len() < TOO_MANY {
+        let wanted = CHUNK.min(TOO_MANY - bytes.len());
         let Ok(count) = file.read(&mut buffer[..wanted]) else {
             return Err(ShelfFault::Failed);
         };

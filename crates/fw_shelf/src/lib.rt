@@ -1,9 +1,10 @@
 //! The outside: where files are read and where bytes are written, each with a count of its faults.
 //!
 //! A [`Shelf`] gives the bytes of a file under a name, a [`Sink`] takes bytes. A contract may know
-//! what a shelf holds and what a sink has taken; where it does not, it still knows that a failure
-//! is counted. [`MemShelf`] and [`MemSink`] are in memory, tell all, and fail at chosen calls;
-//! [`DirShelf`] and [`OutSink`] are the runtime's files and standard output, and tell nothing.
+//! the files of a shelf and the bytes that a sink has taken; if it does not, it still knows that a
+//! failure is counted. [`MemShelf`] and [`MemSink`] are in memory, are known whole, and fail at
+//! chosen calls; [`DirShelf`] and [`OutSink`] are the runtime's files and standard output, of which
+//! nothing but the count is known.
 #![tactic(auto)]
 
 mod dir_shelf;
@@ -19,5 +20,5 @@ pub use dir_shelf::DirShelf;
 pub use mem_shelf::MemShelf;
 pub use mem_sink::MemSink;
 pub use out_sink::OutSink;
-pub use shelf::{LONGEST, Shelf, ShelfFault};
+pub use shelf::{Shelf, ShelfFault};
 pub use sink::{Sink, SinkFailed, write_all};

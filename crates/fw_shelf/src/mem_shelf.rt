@@ -1,17 +1,18 @@
 ghost use Rattle.std.specs.Prelude.{◌≡◌, ◌≤◌, Some, IsErrOf, IsTrue, false};
 ghost use Rattle.fw_shelf.specs.Faults.{Rose};
 ghost use Rattle.fw_shelf.specs.Shelf.{Gives, file_of, is_failed, names_differ};
-ghost use Rattle.fw_shelf.specs.MemShelf.{files_of, after_read, read_fails, IsLater, IsLater-same, IsLater-again};
+ghost use Rattle.fw_shelf.specs.MemShelf.{files_of, after_read, read_fails, IsLater, IsLater-same, IsLater-again, IsLater-files, IsLater-faults};
 
-use crate::shelf::{LONGEST, Shelf, ShelfFault};
+use crate::shelf::{Shelf, ShelfFault};
+use fw_types::MOST_FILE_BYTES;
 use std::alloc::Global;
 use std::marker::Model;
 
-/// A shelf in memory, which tells what it holds and fails at chosen reads.
+/// A shelf in memory, whose files a contract knows and which fails at chosen reads.
 #[derive(Drop)]
 pub struct MemShelf {
     files: Vec<(String, Vec<u8>)>,
-    failing: Vec<u64>,
+    failing_reads: Vec<u64>,
     reads: u64,
     faults: u64,
 }
@@ -25,7 +26,7 @@ impl Model for MemShelf {
 
     ghost view = { λ shelf. record {
       files = files_of shelf.files.items;
-      failing = shelf.failing.items;
+      failing_reads = shelf.failing_reads.items;
       reads = shelf.reads;
       faults = shelf.faults;
     } };
@@ -36,21 +37,21 @@ impl Model for MemShelf {
 impl MemShelf {
     /// A shelf with these files, each a name and its bytes, of which no two have one name.
     ///
-    /// Its reads are numbered from 1, and a read fails exactly where its number is in `failing`.
-    /// The numbers stop at 2^64 - 1, and so does the count of faults. Takes no memory.
-    pub fn new(files: Vec<(String, Vec<u8>)>, failing: Vec<u64>) -> MemShelf
+    /// Reads are numbered from 1. A read fails if its number is in `failing_reads`, and for no
+    /// other cause. The numbers stop at 2^64 - 1, and so does the count of faults. Takes no memory.
+    pub fn new(files: Vec<(String, Vec<u8>)>, failing_reads: Vec<u64>) -> MemShelf
         requires { IsTrue (names_differ (files_of files.items)) }
         ensures { result
             ≡ record {
               files = files_of files.items;
-              failing = failing.items;
+              failing_reads = failing_reads.items;
               reads = 0;
               faults = 0;
             } }
     {
         MemShelf {
             files,
-            failing,
+            failing_reads,
             reads: 0,
             faults: 0,
         }
@@ -58,7 +59,7 @@ impl MemShelf {
 }
 
 impl Shelf for MemShelf {
-    ghost held = { λ shelf. Some shelf.files };
+    ghost files = { λ shelf. Some shelf.files };
 
     ghost faults = { λ shelf. shelf.faults };
 
@@ -68,8 +69,12 @@ impl Shelf for MemShelf {
 
     ghost becomes_again = { IsLater-again };
 
+    ghost becomes_files = { IsLater-files };
+
+    ghost becomes_faults = { IsLater-faults };
+
     fn read(&mut self, alloc: Global, name: &str) -> Result<Option<Vec<u8>>, ShelfFault>
-        ensures told { Gives result (file_of self.old.files name.now) }
+        ensures answer { Gives result (file_of self.old.files name.now) }
         ensures failed { is_failed result ≡ read_fails self.old }
         ensures after { self.new ≡ after_read self.old }
         ensures rose { IsErrOf result ShelfFault.Failed → Rose self.old.faults self.new.faults }
@@ -77,7 +82,7 @@ impl Shelf for MemShelf {
         ensures becomes { IsLater self.old self.new }
     {
         self.reads = self.reads.saturating_add(1);
-        if self.failing.contains(&self.reads) {
+        if self.failing_reads.contains(&self.reads) {
             self.faults = self.faults.saturating_add(1);
             return Err(ShelfFault::Failed);
         }
@@ -85,7 +90,12 @@ impl Shelf for MemShelf {
     }
 }
 
-/// A copy of the file under `name`.
+/// A copy of the file under `name`, or `None` if no file has this name.
+///
+/// # Errors
+///
+/// - `TooLong` if the file has more than 16 MiB.
+/// - `OutOfMemory` if there is no memory for the copy.
 fn copy_of(
     alloc: Global,
     files: &[(String, Vec<u8>)],
@@ -96,7 +106,7 @@ fn copy_of(
 {
     for file in files {
         if file.0.as_str() == name {
-            if file.1.len() > LONGEST {
+            if file.1.len() as u64 > MOST_FILE_BYTES {
                 return Err(ShelfFault::TooLong);
             }
             return match Vec::from_slice(alloc, file.1.as_slice()) {

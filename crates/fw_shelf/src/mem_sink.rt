@@ -1,19 +1,19 @@
 ghost use Rattle.std.specs.Prelude.{◌≡◌, ◌≤◌, ◌<◌, [], Some, length, IfOk, OnErr};
 ghost use Rattle.fw_shelf.specs.Faults.{Rose};
-ghost use Rattle.fw_shelf.specs.MemSink.{answer_to, after_write, IsLater, IsLater-same, IsLater-again};
+ghost use Rattle.fw_shelf.specs.MemSink.{answer_to, after_write, IsLater, IsLater-same, IsLater-again, IsLater-faults};
 
 use crate::sink::{Sink, SinkFailed};
 use fw_types::OutOfMemory;
 use std::alloc::Global;
 use std::marker::Model;
 
-/// A sink in memory, which tells what it has taken and fails at chosen writes.
+/// A sink in memory, whose bytes a contract knows and which fails at chosen writes.
 #[derive(Drop)]
 pub struct MemSink {
     bytes: Vec<u8>,
     room: usize,
     step: usize,
-    failing: Vec<u64>,
+    failing_writes: Vec<u64>,
     writes: u64,
     faults: u64,
 }
@@ -28,7 +28,7 @@ impl Model for MemSink {
       bytes = sink.bytes.items;
       room = sink.room;
       step = sink.step;
-      failing = sink.failing.items;
+      failing_writes = sink.failing_writes.items;
       writes = sink.writes;
       faults = sink.faults;
     } };
@@ -38,17 +38,21 @@ impl Model for MemSink {
 }
 
 impl MemSink {
-    /// An empty sink with room for `room` bytes, which it reserves. One write takes `step` bytes
-    /// at most, which is at least 1, and no memory.
+    /// An empty sink with room for `room` bytes, which it reserves. One write takes at most `step`
+    /// bytes, which is at least 1. A write takes no memory.
     ///
-    /// Its writes are numbered from 1. A write fails exactly where its number is in `failing`, or
-    /// where its piece is not empty and no room is left. The numbers stop at 2^64 - 1, and so does
-    /// the count of faults. `OutOfMemory` where there is no memory for the room.
+    /// Writes are numbered from 1. A write fails if its number is in `failing_writes`, or if its
+    /// piece is not empty and no room is left, and for no other cause. The numbers stop at
+    /// 2^64 - 1, and so does the count of faults.
+    ///
+    /// # Errors
+    ///
+    /// `OutOfMemory` if there is no memory for the room.
     pub fn new(
         alloc: Global,
         room: usize,
         step: usize,
-        failing: Vec<u64>,
+        failing_writes: Vec<u64>,
     ) -> Result<MemSink, OutOfMemory>
         requires { 0 < step }
         ensures { IfOk result
@@ -57,7 +61,7 @@ impl MemSink {
               bytes = [];
               room = room;
               step = step;
-              failing = failing.items;
+              failing_writes = failing_writes.items;
               writes = 0;
               faults = 0;
             }) }
@@ -67,7 +71,7 @@ impl MemSink {
             bytes,
             room,
             step,
-            failing,
+            failing_writes,
             writes: 0,
             faults: 0,
         })
@@ -92,10 +96,12 @@ impl Sink for MemSink {
 
     ghost becomes_again = { IsLater-again };
 
+    ghost becomes_faults = { IsLater-faults };
+
     fn write(&mut self, piece: &[u8]) -> Result<usize, SinkFailed>
         ensures answer { result ≡ answer_to self.old piece.now }
         ensures after { self.new ≡ after_write self.old piece.now }
-        ensures some { IfOk result (λ n. 0 < length piece.now → 0 < n) }
+        ensures at_least_one { IfOk result (λ n. 0 < length piece.now → 0 < n) }
         ensures rose { OnErr result (Rose self.old.faults self.new.faults) }
         ensures faults { self.old.faults ≤ self.new.faults }
         ensures becomes { IsLater self.old self.new }
@@ -103,7 +109,7 @@ impl Sink for MemSink {
         self.writes = self.writes.saturating_add(1);
         let left = self.room - self.bytes.len();
         let full = !piece.is_empty() && left == 0;
-        if full || self.failing.contains(&self.writes) {
+        if full || self.failing_writes.contains(&self.writes) {
             self.faults = self.faults.saturating_add(1);
             return Err(SinkFailed);
         }

@@ -1,5 +1,5 @@
-ghost use Rattle.std.specs.Prelude.{⊤, ◌≡◌, ◌≤◌, ◌<◌, None, length, IfOk, OnErr, is_ok, if◌then◌else◌};
-ghost use Rattle.fw_shelf.specs.Faults.{Rose, counted};
+ghost use Rattle.std.specs.Prelude.{◌≡◌, ◌≤◌, ◌<◌, None, length, IfOk, OnErr, is_ok, if◌then◌else◌};
+ghost use Rattle.fw_shelf.specs.Faults.{IsNotFallen, IsNotFallen-again, IsNotFallen-le, IsNotFallen-same, Rose, next_count};
 
 use crate::sink::{Sink, SinkFailed};
 use std::marker::Model;
@@ -7,8 +7,8 @@ use std::marker::Model;
 /// The runtime's standard output.
 ///
 /// An error of the runtime is a failure, and so is a write that takes nothing of a piece that is
-/// not empty. Failures are counted up to 2^64 - 1. A contract sees the count alone, and knows
-/// nothing of what came out.
+/// not empty. Failures are counted up to 2^64 - 1. A contract sees only the count, and knows
+/// nothing of the bytes that came out.
 #[derive(Drop)]
 pub struct OutSink<R: Print + Drop> {
     rt: R,
@@ -24,7 +24,7 @@ impl<R: Print + Drop> Model for OutSink<R> {
 }
 
 impl<R: Print + Drop> OutSink<R> {
-    /// The standard output of this runtime, with no fault yet.
+    /// The standard output of this runtime, whose count of faults is 0.
     pub fn new(rt: R) -> OutSink<R>
         ensures { result ≡ 0 }
     {
@@ -37,16 +37,18 @@ impl<R: Print + Drop> Sink for OutSink<R> {
 
     ghost faults = { λ sink. sink };
 
-    ghost becomes = { λ _ _. ⊤ };
+    ghost becomes = { IsNotFallen };
 
-    ghost becomes_same = { λ _. tt };
+    ghost becomes_same = { IsNotFallen-same };
 
-    ghost becomes_again = { λ _ _ _ _ _. tt };
+    ghost becomes_again = { IsNotFallen-again };
+
+    ghost becomes_faults = { IsNotFallen-le };
 
     fn write(&mut self, piece: &[u8]) -> Result<usize, SinkFailed>
-        ensures count { IfOk result (λ n. n ≤ length piece.now) }
-        ensures some { IfOk result (λ n. 0 < length piece.now → 0 < n) }
-        ensures counted { self.new ≡ (if is_ok result then self.old else counted self.old) }
+        ensures within { IfOk result (λ n. n ≤ length piece.now) }
+        ensures at_least_one { IfOk result (λ n. 0 < length piece.now → 0 < n) }
+        ensures fault_count { self.new ≡ (if is_ok result then self.old else next_count self.old) }
         ensures failed { OnErr result (Rose self.old self.new) }
         ensures faults { self.old ≤ self.new }
     {

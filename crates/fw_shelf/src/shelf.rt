@@ -1,20 +1,17 @@
 ghost use Rattle.std.specs.Prelude.{◌≡◌, ◌≤◌, ℕ, Option, IsErrOf};
 ghost use Rattle.fw_shelf.specs.Faults.{Rose};
-ghost use Rattle.fw_shelf.specs.Shelf.{Files, Told};
+ghost use Rattle.fw_shelf.specs.Shelf.{Files, GivesIfKnown};
 
 use std::alloc::Global;
 use thiserror::Error;
 
-/// The most bytes that a file may have: 16 MiB.
-pub const LONGEST: usize = 16_777_216;
-
 /// Why a file was not read.
 #[derive(Clone, Copy, Debug, PartialEq, Eq, Error)]
 pub enum ShelfFault {
-    /// The outside failed, which the shelf counts.
+    /// The outside failed, and the shelf counted it.
     #[error("the shelf failed")]
     Failed,
-    /// The file has more than [`LONGEST`] bytes.
+    /// The file has more than `fw_types::MOST_FILE_BYTES` bytes, which is 16 MiB.
     #[error("the file is too long")]
     TooLong,
     /// There was no memory for the file's bytes.
@@ -22,26 +19,30 @@ pub enum ShelfFault {
     OutOfMemory,
 }
 
-/// Where files lie under their names.
+/// Files under names.
 pub trait Shelf {
-    /// The files, where the shelf tells them.
-    ghost held: { Self → Option Files };
+    /// The files, if a contract may know them.
+    ghost files: { Self → Option Files };
 
-    /// How often the outside failed, which never falls.
+    /// How often the outside failed. This count never falls.
     ghost faults: { Self → ℕ };
 
     /// What reads may make of a shelf.
     ghost becomes: { Self → Self → Type 0 };
 
-    /// The bytes of the file under `name`, or `None` where there is no such file.
+    /// The bytes of the file under `name`, or `None` if there is no such file. The files of the
+    /// shelf stay as they were.
     ///
-    /// `TooLong` where the file has more than [`LONGEST`] bytes, `Failed` where the outside failed
-    /// in this call, `OutOfMemory` where there was no memory for the bytes. What the shelf holds
-    /// stays as it was.
+    /// # Errors
+    ///
+    /// - `Failed` only if the outside failed in this call; the count of faults rose then.
+    /// - `TooLong` if the file has more than 16 MiB.
+    /// - `OutOfMemory` if there is no memory for the bytes.
     fn read(&mut self, alloc: Global, name: &str) -> Result<Option<Vec<u8>>, ShelfFault>
-        ensures told { Told (held self.old) name.now result }
-        ensures failed { IsErrOf result ShelfFault.Failed → Rose (faults self.old) (faults self.new) }
-        ensures held { held self.new ≡ held self.old }
+        ensures answer { GivesIfKnown (files self.old) name.now result }
+        ensures failed { IsErrOf result ShelfFault.Failed
+            → Rose (faults self.old) (faults self.new) }
+        ensures same_files { files self.new ≡ files self.old }
         ensures faults { faults self.old ≤ faults self.new }
         ensures becomes { becomes self.old self.new };
 
@@ -50,4 +51,10 @@ pub trait Shelf {
 
     /// What a shelf becomes in two parts, it becomes.
     ghost becomes_again: { (a b c : Self) → becomes a b → becomes b c → becomes a c };
+
+    /// The files of what a shelf becomes are the same.
+    ghost becomes_files: { (a b : Self) → becomes a b → files b ≡ files a };
+
+    /// The count of faults of what a shelf becomes has not fallen.
+    ghost becomes_faults: { (a b : Self) → becomes a b → faults a ≤ faults b };
 }

@@ -2,19 +2,20 @@ ghost use Rattle.std.specs.Prelude.{◌≡◌, ◌<◌, ℕ, List, [], ◌++◌,
 
 use super::*;
 use std::alloc::{AllocError, Global};
+use std::cell::RefCell;
 use std::fmt::Display;
 use std::test::Fail;
 use std::{fs, io};
 
 /// A shelf with the files `a`, of three bytes, and `b`, which is empty.
-fn two_files(alloc: Global, failing: &[u64]) -> Result<MemShelf, AllocError> {
+fn two_files(alloc: Global, failing_reads: &[u64]) -> Result<MemShelf, AllocError> {
     let a = (
         String::from_str(alloc, "a")?,
         Vec::from_slice(alloc, b"one")?,
     );
     let b = (String::from_str(alloc, "b")?, Vec::new(alloc));
     let files = vec![in alloc; a, b]?;
-    Ok(MemShelf::new(files, Vec::from_slice(alloc, failing)?))
+    Ok(MemShelf::new(files, Vec::from_slice(alloc, failing_reads)?))
 }
 
 /// Whether an answer is that there is a file with these bytes, that there is none, or this fault.
@@ -48,52 +49,8 @@ fn a_shelf_fails_at_the_listed_reads(rt: HostRuntime) -> Result<(), Fail> {
     Ok(())
 }
 
-/// So many bytes.
-fn filled(alloc: Global, count: usize) -> Result<Vec<u8>, AllocError> {
-    vec![in alloc; 7u8; count]
-}
-
 #[test]
-fn the_longest_file_is_given_and_a_longer_one_is_not(rt: HostRuntime) -> Result<(), Fail> {
-    let alloc = rt.alloc();
-    let longest = (
-        String::from_str(alloc, "longest")?,
-        filled(alloc, 16_777_216)?,
-    );
-    let longer = (
-        String::from_str(alloc, "longer")?,
-        filled(alloc, 16_777_217)?,
-    );
-    let mut shelf = MemShelf::new(vec![in alloc; longest, longer]?, Vec::new(alloc));
-    let given = shelf.read(alloc, "longest");
-    assert!(rt; matches!(&given, Ok(Some(bytes)) if bytes.len() == 16_777_216));
-    let refused = shelf.read(alloc, "longer");
-    assert!(rt; is_answer(&refused, Err(ShelfFault::TooLong)));
-    Ok(())
-}
-
-#[test]
-fn a_sink_takes_by_steps_until_it_is_full(rt: HostRuntime) -> Result<(), Fail> {
-    let alloc = rt.alloc();
-    let mut sink = MemSink::new(alloc, 5, 2, Vec::from_slice(alloc, &[2])?)?;
-    let writes: [(&[u8], Result<usize, SinkFailed>, &[u8]); 7] = [
-        (b"abc", Ok(2), b"ab"),
-        (b"c", Err(SinkFailed), b"ab"),
-        (b"", Ok(0), b"ab"),
-        (b"cd", Ok(2), b"abcd"),
-        (b"ef", Ok(1), b"abcde"),
-        (b"f", Err(SinkFailed), b"abcde"),
-        (b"", Ok(0), b"abcde"),
-    ];
-    for (piece, want, taken) in writes {
-        assert_eq!(rt; sink.write(piece), want);
-        assert_eq!(rt; sink.taken(), taken);
-    }
-    Ok(())
-}
-
-#[test]
-fn a_whole_piece_goes_out_or_a_front_of_it(rt: HostRuntime) -> Result<(), Fail> {
+fn a_whole_piece_goes_out_or_a_prefix_of_it(rt: HostRuntime) -> Result<(), Fail> {
     let alloc = rt.alloc();
     // Room, step and failing writes of a sink; a piece; whether all of it goes out, and what does.
     let cases: [(usize, usize, &[u64], &[u8], bool, &[u8]); 6] = [
@@ -114,7 +71,7 @@ fn a_whole_piece_goes_out_or_a_front_of_it(rt: HostRuntime) -> Result<(), Fail> 
     Ok(())
 }
 
-/// Reads one name twice, and says whether both times a file came.
+/// Whether a file comes both times if one name is read twice.
 fn comes_twice<S: Shelf>(alloc: Global, shelf: &mut S, name: &str) -> bool
     ensures { S.becomes shelf.old shelf.new }
 {
@@ -123,24 +80,24 @@ fn comes_twice<S: Shelf>(alloc: Global, shelf: &mut S, name: &str) -> bool
     matches!(first, Ok(Some(_))) && matches!(second, Ok(Some(_)))
 }
 
-/// With no number listed, no fault is counted, whatever a generic caller reads.
+/// If no read is to fail, no fault is counted, whatever a generic caller reads.
 fn comes_from_memory(alloc: Global, shelf: &mut MemShelf, name: &str) -> bool
-    requires { shelf.old.failing ≡ [] }
+    requires { shelf.old.failing_reads ≡ [] }
     ensures { shelf.new.faults ≡ shelf.old.faults }
 {
     comes_twice(alloc, shelf, name)
 }
 
-/// Writes two pieces, and says whether both went out.
+/// Whether two pieces both go out.
 fn takes_both<K: Sink>(sink: &mut K, first: &[u8], second: &[u8]) -> bool
     ensures { K.becomes sink.old sink.new }
 {
     write_all(sink, first).is_ok() && write_all(sink, second).is_ok()
 }
 
-/// With no number listed, no fault is counted before the sink is full.
+/// If no write is to fail, no fault is counted before the sink is full.
 fn takes_in_memory(sink: &mut MemSink, first: &[u8], second: &[u8]) -> bool
-    requires { sink.old.failing ≡ [] }
+    requires { sink.old.failing_writes ≡ [] }
     ensures faults { length sink.new.bytes < sink.old.room → sink.new.faults ≡ sink.old.faults }
     ensures step { sink.new.step ≡ sink.old.step }
     ensures grows { (more : List ℕ) × (sink.new.bytes ≡ sink.old.bytes ++ more) }
@@ -159,16 +116,25 @@ fn no_fault_comes_in_memory_through_a_bound(rt: HostRuntime) -> Result<(), Fail>
     Ok(())
 }
 
+/// So many bytes, each of which differs from the one before it.
+fn varied(alloc: Global, count: usize) -> Result<Vec<u8>, AllocError> {
+    let mut bytes: Vec<u8> = vec![in alloc; 0; count]?;
+    for (place, byte) in bytes.iter_mut().enumerate() {
+        *byte = (place % 251) as u8;
+    }
+    Ok(bytes)
+}
+
 #[test]
 fn a_folder_gives_what_was_written(rt: HostRuntime) -> Result<(), Fail> {
     let alloc = rt.alloc();
     let mut shelf = DirShelf::new(&rt);
     for count in [0, 9, 65_536, 200_000, 16_777_216] {
-        fs::write(&rt, "fw_shelf.written", filled(alloc, count)?)?;
+        fs::write(&rt, "fw_shelf.written", varied(alloc, count)?)?;
         let given = shelf.read(alloc, "fw_shelf.written");
-        assert!(rt; matches!(&given, Ok(Some(bytes)) if *bytes == filled(alloc, count)?));
+        assert!(rt; matches!(&given, Ok(Some(bytes)) if *bytes == varied(alloc, count)?));
     }
-    fs::write(&rt, "fw_shelf.written", filled(alloc, 16_777_217)?)?;
+    fs::write(&rt, "fw_shelf.written", varied(alloc, 16_777_217)?)?;
     let longer = shelf.read(alloc, "fw_shelf.written");
     assert!(rt; is_answer(&longer, Err(ShelfFault::TooLong)));
     fs::remove_file(&rt, "fw_shelf.written")?;
@@ -178,6 +144,79 @@ fn a_folder_gives_what_was_written(rt: HostRuntime) -> Result<(), Fail> {
     // A folder opens as a file does, and then gives no bytes.
     let folder = shelf.read(alloc, ".");
     assert!(rt; is_answer(&folder, Err(ShelfFault::Failed)));
+    Ok(())
+}
+
+#[test]
+fn a_name_of_255_bytes_is_read(rt: HostRuntime) -> Result<(), Fail> {
+    let alloc = rt.alloc();
+    let mut name = String::new(alloc);
+    for _ in 0..51 {
+        name.push_str("shelf")?;
+    }
+    let mut shelf = DirShelf::new(&rt);
+    fs::write(&rt, name.as_str(), b"long".as_slice())?;
+    let given = shelf.read(alloc, name.as_str());
+    fs::remove_file(&rt, name.as_str())?;
+    assert!(rt; is_answer(&given, Ok(Some(b"long"))));
+    Ok(())
+}
+
+/// A standard output that takes at most `step` bytes at a time, and keeps what it takes.
+#[derive(Drop)]
+struct Kept {
+    step: usize,
+    bytes: RefCell<Vec<u8>>,
+}
+
+impl Kept {
+    /// Whether these are all the bytes that came out.
+    fn are(&self, bytes: &[u8]) -> bool {
+        match self.bytes.try_borrow() {
+            Ok(kept) => kept.as_slice() == bytes,
+            Err(_) => false,
+        }
+    }
+}
+
+impl Print for Kept {
+    fn print<D: Display + Drop>(&self, _value: D) -> io::Result<()> {
+        Err(io::Error::from(io::ErrorKind::Unsupported))
+    }
+
+    fn println<D: Display + Drop>(&self, _value: D) -> io::Result<()> {
+        Err(io::Error::from(io::ErrorKind::Unsupported))
+    }
+
+    fn write_all(&self, _bytes: &[u8]) -> io::Result<()> {
+        Err(io::Error::from(io::ErrorKind::Unsupported))
+    }
+
+    fn write_some(&self, bytes: &[u8]) -> io::Result<usize> {
+        let share = bytes.len().min(self.step);
+        match self.bytes.try_borrow_mut() {
+            Ok(mut kept) => kept.extend_from_slice(&bytes[..share])?,
+            Err(_) => return Err(io::Error::from(io::ErrorKind::ResourceBusy)),
+        }
+        Ok(share)
+    }
+}
+
+#[test]
+fn all_bytes_come_out_in_parts(rt: HostRuntime) -> Result<(), Fail> {
+    let alloc = rt.alloc();
+    let piece = varied(alloc, 100_000)?;
+    for step in [1, 3, 4096, 99_999, 100_000] {
+        let out = Kept {
+            step,
+            bytes: RefCell::new(Vec::new(alloc)),
+        };
+        let mut sink = OutSink::new(&out);
+        assert!(rt; takes_both(&mut sink, piece.as_slice(), b"\xff"));
+        let mut all = varied(alloc, 100_000)?;
+        all.push(0xff)?;
+        assert!(rt; out.are(all.as_slice()), "with {step}");
+    }
     Ok(())
 }
 
@@ -200,7 +239,7 @@ impl Print for Closed {
 }
 
 #[test]
-fn bytes_come_out(rt: HostRuntime) {
+fn a_closed_output_is_a_failure(rt: HostRuntime) {
     let mut out = OutSink::new(&rt);
     assert!(rt; takes_both(&mut out, b"bytes that need not be text: \xff", b"\n"));
     let mut closed = OutSink::new(Closed);

@@ -1,3 +1,4 @@
 pub mod Attr
 pub mod Guid
+pub mod Layout
 pub mod Status

@@ -1,27 +1,29 @@
-use Rattle.std.specs.Prelude.{ℕ, ◌+◌, ◌^◌, List, [], ◌∷◌, Option, codes, nat_eq}
+-- Statuses (UEFI 2.8, appendix D).
+use Rattle.std.specs.Prelude.{ℕ, ◌^◌, Bool, nat_eq, nat_le, List, [], ◌∷◌, Option, codes}
 use Rattle.std.specs.Map.{lookup}
 use Rattle.fw_types.specs.declared.status.Status.{Status}
+use Rattle.fw_types.specs.declared.status.TheConstants.Status.{SUCCESS, LOAD_ERROR, INVALID_PARAMETER, UNSUPPORTED, BAD_BUFFER_SIZE, BUFFER_TOO_SMALL, NOT_READY, DEVICE_ERROR, OUT_OF_RESOURCES, NOT_FOUND, ACCESS_DENIED, ALREADY_STARTED, ABORTED}
 
--- the number of an error code: the code with bit 63 set (UEFI 2.8, appendix D)
-abbrev pub error : ℕ → ℕ
-error code = 2 ^ 63 + code
+-- whether a status is an error: bit 63 is set
+abbrev pub is_error : Status → Bool
+is_error status = nat_le (2 ^ 63) status.0
 
 -- the statuses that have a name
 abbrev pub names : List (ℕ × List ℕ)
 names =
-    (0, codes "SUCCESS")
-    ∷ (error 1, codes "LOAD_ERROR")
-    ∷ (error 2, codes "INVALID_PARAMETER")
-    ∷ (error 3, codes "UNSUPPORTED")
-    ∷ (error 4, codes "BAD_BUFFER_SIZE")
-    ∷ (error 5, codes "BUFFER_TOO_SMALL")
-    ∷ (error 6, codes "NOT_READY")
-    ∷ (error 7, codes "DEVICE_ERROR")
-    ∷ (error 9, codes "OUT_OF_RESOURCES")
-    ∷ (error 14, codes "NOT_FOUND")
-    ∷ (error 15, codes "ACCESS_DENIED")
-    ∷ (error 20, codes "ALREADY_STARTED")
-    ∷ (error 21, codes "ABORTED")
+    (SUCCESS.0, codes "SUCCESS")
+    ∷ (LOAD_ERROR.0, codes "LOAD_ERROR")
+    ∷ (INVALID_PARAMETER.0, codes "INVALID_PARAMETER")
+    ∷ (UNSUPPORTED.0, codes "UNSUPPORTED")
+    ∷ (BAD_BUFFER_SIZE.0, codes "BAD_BUFFER_SIZE")
+    ∷ (BUFFER_TOO_SMALL.0, codes "BUFFER_TOO_SMALL")
+    ∷ (NOT_READY.0, codes "NOT_READY")
+    ∷ (DEVICE_ERROR.0, codes "DEVICE_ERROR")
+    ∷ (OUT_OF_RESOURCES.0, codes "OUT_OF_RESOURCES")
+    ∷ (NOT_FOUND.0, codes "NOT_FOUND")
+    ∷ (ACCESS_DENIED.0, codes "ACCESS_DENIED")
+    ∷ (ALREADY_STARTED.0, codes "ALREADY_STARTED")
+    ∷ (ABORTED.0, codes "ABORTED")
     ∷ []
 
 -- the name of a status

@@ -65,7 +65,7 @@ impl Attr {
     /// Opened by HandleProtocol.
     pub const BY_HANDLE_PROTOCOL: u32 = 0x01;
 
-    /// Opened to use the interface, with no word to its user when it goes.
+    /// Opened to use the interface; the agent is not asked when the interface is uninstalled.
     pub const GET_PROTOCOL: u32 = 0x02;
 
     /// Opened to see whether it is there.
@@ -80,8 +80,23 @@ impl Attr {
     /// Opened by one agent alone.
     pub const EXCLUSIVE: u32 = 0x20;
 
-    /// The attribute with these bits, or `None` exactly where an interface can't be opened with
-    /// them: where they are none of 0x01, 0x02, 0x04, 0x08, 0x10, 0x20 and 0x30.
+    /// BY_HANDLE_PROTOCOL, GET_PROTOCOL and TEST_PROTOCOL, which keep no other agent out.
+    pub const WEAK_BITS: u32 = 0x07;
+
+    /// BY_CHILD_CONTROLLER and BY_DRIVER, which always name a controller.
+    pub const CONTROLLER_BITS: u32 = 0x18;
+
+    /// BY_DRIVER and EXCLUSIVE, of which an interface has at most one record.
+    pub const HOLDING_BITS: u32 = 0x30;
+
+    /// BY_CHILD_CONTROLLER, BY_DRIVER and EXCLUSIVE, which always name an agent.
+    pub const AGENT_BITS: u32 = 0x38;
+
+    /// All six bits, of which each open record has one.
+    pub const ALL_BITS: u32 = 0x3F;
+
+    /// The attribute with these bits, or `None` exactly if an interface can't be opened with them:
+    /// if they are none of 0x01, 0x02, 0x04, 0x08, 0x10, 0x20 and 0x30.
     pub fn legal(bits: u32) -> Option<Attr>
         ensures { SomeIff result (IsTrue (is_legal bits)) bits }
     {

@@ -3,7 +3,7 @@ ghost use Rattle.std.specs.Prelude.{◌≡◌, ◌<◌, ◌+◌, ◌-◌, ◌^�
 use std::marker::Model;
 
 /// The number of a handle of the handle database, which is never 0 (UEFI 2.8, 7.3: EFI_HANDLE,
-/// of which NULL is no handle).
+/// in which NULL is not a handle).
 #[derive(Clone, Copy, Debug, PartialEq, Eq, PartialOrd, Ord)]
 pub struct Handle(u64);
 
@@ -20,7 +20,7 @@ impl Model for Handle {
 }
 
 impl Handle {
-    /// The handle with the number `n`, or `None` exactly where `n` is 0, the NULL handle.
+    /// The handle with the number `n`, or `None` exactly if `n` is 0, the NULL handle.
     pub fn new(n: u64) -> Option<Handle>
         ensures { SomeIff result (0 < n) n }
     {

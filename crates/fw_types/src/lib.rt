@@ -12,6 +12,8 @@ mod event;
 mod guid;
 mod handle;
 mod image;
+mod layout;
+mod limits;
 mod memory;
 mod reply;
 mod rows;
@@ -24,7 +26,16 @@ pub use dump::DumpLine;
 pub use event::{Cause, Event, EventKind, Outcome};
 pub use guid::{Guid, Known};
 pub use handle::Handle;
-pub use image::{ImageNote, PeRefusal, RomEnd};
+pub use image::{
+    BOOT_SERVICE_DRIVER, EFI_CODE, ImageNote, MACHINE_EBC, PeRefusal, RUNTIME_DRIVER, RomEnd,
+    RomNote, RomNoteKind,
+};
+pub use layout::{put_bytes, put_u16, put_u32, put_u64};
+pub use limits::{
+    CALL_BUDGET, CALL_PRICE, COMMAND_BUDGET, HANDLE_NUMBER_END, MOST_BLOCKS, MOST_BYTES,
+    MOST_FILE_BYTES, MOST_HANDLES, MOST_INTERFACES, MOST_LEVELS, MOST_LISTED, MOST_MARKS,
+    MOST_RECORDS, MOST_THUNKS,
+};
 pub use memory::OutOfMemory;
 pub use reply::Reply;
 pub use rows::Rows;

@@ -1,5 +1,5 @@
-ghost use Rattle.std.specs.Prelude.{◌≡◌, ◌≤◌, ◌^◌, ◌↔◌, IsTrue, option_map};
-ghost use Rattle.fw_types.specs.Status.{name_of};
+ghost use Rattle.std.specs.Prelude.{◌≡◌, option_map};
+ghost use Rattle.fw_types.specs.Status.{is_error, name_of};
 
 /// What a service, a driver or a command answers: an EFI_STATUS of 64 bits (UEFI 2.8, appendix D).
 /// An error has bit 63 set. Any other value counts as success, a warning too.
@@ -48,12 +48,12 @@ impl Status {
 
     /// Whether the status is an error: whether bit 63 is set.
     pub fn is_error(self) -> bool
-        ensures { IsTrue result ↔ (2 ^ 63 ≤ self.0) }
+        ensures { result ≡ is_error self }
     {
         self.0 >= 1 << 63
     }
 
-    /// The name that the status has in this firmware, or `None` exactly where it has none.
+    /// The name that the status has in this firmware, or `None` exactly if it has none.
     pub fn name(self) -> Option<&'static str>
         ensures { option_map (λ text. text.now) result ≡ name_of self }
     {

@@ -1,4 +1,7 @@
-use crate::{Attr, Command, Guid, Handle, Known, OutOfMemory, Reply, Rows, Status, Text};
+use crate::{
+    Attr, Command, Guid, Handle, Known, OutOfMemory, Reply, Rows, Status, Text, put_bytes, put_u16,
+    put_u32, put_u64,
+};
 use std::alloc::Global;
 use std::test::Fail;
 
@@ -145,4 +148,18 @@ fn lists_and_texts_are_compared_by_what_they_hold(rt: HostRuntime) -> Result<(),
     assert_eq!(rt; text.as_str(), "a.efi");
     assert_eq!(rt; text.into_string().as_str(), "a.efi");
     Ok(())
+}
+
+#[test]
+fn fields_are_put_lowest_byte_first(rt: HostRuntime) {
+    let mut bytes = [0xFF; 18];
+    put_bytes(&mut bytes, 0, b"PE");
+    put_u16(&mut bytes, 3, 0x0EBC);
+    put_u32(&mut bytes, 5, 0x0102_0304);
+    put_u64(&mut bytes, 9, 0x5453_5953_2049_4249);
+    let wanted = [
+        b'P', b'E', 0xFF, 0xBC, 0x0E, 4, 3, 2, 1, b'I', b'B', b'I', b' ', b'S', b'Y', b'S', b'T',
+        0xFF,
+    ];
+    assert_eq!(rt; bytes, wanted);
 }

@@ -9,34 +9,34 @@ use Rattle.fw_types.specs.declared.guid.Known.TheVariants.{LoadedImage as Loaded
 use Rattle.guest_memory.specs.declared.guest.MemRefusal.{MemRefusal}
 use Rattle.guest_memory.specs.declared.segment.Segment.{Segment}
 use Rattle.guest_memory.specs.GuestMemory.{Gives as GivesWrite, beginning_at, mapped, unmapped, write_answer, written}
-use Rattle.handle_db.specs.declared.entry.Entry.{Entry}
-use Rattle.handle_db.specs.declared.entry.Interface.{Interface}
+use Rattle.handle_db.specs.declared.handle_entry.HandleEntry.{HandleEntry}
+use Rattle.handle_db.specs.declared.handle_entry.Interface.{Interface}
 use Rattle.handle_db.specs.declared.refusal.DbRefusal.{DbRefusal}
 use Rattle.handle_db.specs.declared.refusal.Removed.{Removed}
 use Rattle.handle_db.specs.Database.{Database, Gives, interface_of, interfaces_in, interfaces_of, is_guid, is_handle, is_live}
 use Rattle.fw_types.specs.Attr.{is_legal}
 use Rattle.open_records.specs.declared.fault.RecFault.{RecFault}
-use Rattle.open_records.specs.OpenRecords.{Table, records_of}
+use Rattle.open_records.specs.OpenRecords.{RecordTable, records_of}
 use Rattle.open_records.specs.Adding.{Gives as GivesRecord, added, is_full as is_table_full}
 use Rattle.open_records.specs.Verdicts.{judge, may_enter}
 use Rattle.handle_db.specs.Installing.{install_answer, installed, is_full as is_database_full}
-use Rattle.handle_db.specs.Removing.{remove_answer, removed, told}
+use Rattle.handle_db.specs.Removing.{remove_answer, removed, removal_of}
 use Rattle.world_model.specs.declared.fault.WorldFault.{WorldFault}
 use Rattle.world_model.specs.declared.fault.WorldFault.TheVariants.{Full}
 use Rattle.world_model.specs.declared.image.LoadedImage.{LoadedImage}
 use Rattle.world_model.specs.World.{Soft}
-use Rattle.world_model.specs.Blocks.{taken}
+use Rattle.world_model.specs.Blocks.{block_room}
 use Rattle.world_model.specs.Records.{is_none_or_live, records_removed}
 use Rattle.world_model.specs.Interfaces.{firmware}
 use Rattle.world_model.specs.Images.{block_size, image_added, image_dropped, image_of, is_image_full, next_step, without_image, without_loaded}
 use Rattle.world_model.specs.Thunks.{without_thunks}
 use Rattle.world_model.specs.Kept.{IsKept, has_interface, is_address, is_installed}
 use Rattle.world_model.proofs.KeepingBlocks.{writing}
-use Rattle.world_model.proofs.Loaded.{found_passes}
+use Rattle.world_model.proofs.ImageLists.{found_passes}
 use Rattle.world_model.proofs.KeepingImages.{adding, dropping}
 use Rattle.world_model.proofs.KeepingInterfaces.{installing}
 use Rattle.world_model.proofs.KeepingRecords.{entering}
-use Rattle.world_model.proofs.Opened.{has_from}
+use Rattle.world_model.proofs.RecordParties.{has_from}
 
 -- a database in which an interface was installed, or not
 pub kept_installed : (soft : Soft) (who : Option ℕ) (new : Interface) (result : Result ℕ DbRefusal) (after : Database) → IsKept soft → Gives result (install_answer who new.guid soft.database)
@@ -46,16 +46,16 @@ kept_installed soft who new (Ok handle) after kept gives ok err =
 kept_installed soft who new (Err refusal) after kept gives ok err = subst (λ (db : Database). IsKept (record soft { database = db })) (sym err) kept
 
 -- records with one more open, or not
-pub kept_entered : (soft : Soft) (handle : ℕ) (guid : List ℕ) (agent controller attr : ℕ) (result : Result Unit RecFault) (after : Table) → IsKept soft
+pub kept_entered : (soft : Soft) (handle : ℕ) (guid : List ℕ) (agent controller attr : ℕ) (result : Result Unit RecFault) (after : RecordTable) → IsKept soft
     → is_some (interface_of handle guid soft.database) ≡ true → is_live agent soft.database ≡ true → is_none_or_live controller soft.database ≡ true
-    → may_enter (judge (records_of soft.records.held handle guid) agent controller attr) ≡ true → is_legal attr ≡ true
+    → may_enter (judge (records_of soft.records.entries handle guid) agent controller attr) ≡ true → is_legal attr ≡ true
     → GivesRecord result (is_table_full handle guid agent controller attr soft.records) → OnOk result (after ≡ added handle guid agent controller attr soft.records) → OnErr result (after ≡ soft.records)
     → IsKept (record soft { records = after })
 kept_entered soft handle guid agent controller attr (Ok done) after kept there live none enters legal gives ok err =
-    subst (λ (table : Table). IsKept (record soft { records = table })) (sym ok)
+    subst (λ (table : RecordTable). IsKept (record soft { records = table })) (sym ok)
     (entering soft handle guid agent controller attr kept (has_from handle guid soft.database there) live none enters legal gives)
 kept_entered soft handle guid agent controller attr (Err refusal) after kept there live none enters legal gives ok err =
-    subst (λ (table : Table). IsKept (record soft { records = table })) (sym err) kept
+    subst (λ (table : RecordTable). IsKept (record soft { records = table })) (sym err) kept
 
 -- segments after a write, whether it was refused or not
 pub kept_written : (soft : Soft) (at n value : ℕ) (result : Result Unit MemRefusal) (after : List Segment) → IsKept soft → GivesWrite result (write_answer soft.memory at n)
@@ -74,7 +74,7 @@ unmapped-mapped new (s ∷ rest) = by_order (nat_lt s.base new.base) refl (unmap
     by_order false is later = let same : nat_eq new.base new.base ≡ true = grind (arith, nat_tests) in rw same refl
 
 -- an entry that is found is live
-found_live : (handle : ℕ) (entries : List Entry) (entry : Entry) → find (is_handle handle) entries ≡ Some entry → list_any (is_handle handle) entries ≡ true
+found_live : (handle : ℕ) (entries : List HandleEntry) (entry : HandleEntry) → find (is_handle handle) entries ≡ Some entry → list_any (is_handle handle) entries ≡ true
 found_live handle [] entry found = absurd cc
 found_live handle (first ∷ entries) entry found = by_head (is_handle handle first) (λ later. found_live handle entries entry later) found
   where
@@ -86,11 +86,11 @@ found_live handle (first ∷ entries) entry found = by_head (is_handle handle fi
 pub remove_done : (db : Database) (handle : ℕ) (guid : List ℕ) (address owner : ℕ) → has_interface db handle guid address owner ≡ true → is_ok (remove_answer handle guid db) ≡ true
 remove_done db handle guid address owner has = by_entry (find (is_handle handle) db.handles) refl has
   where
-    by_listed : (found : Option Interface) (interfaces : List Interface) → is_address address owner (option_map (λ (i : Interface). (i.interface, i.owner)) found) ≡ true → is_ok (told interfaces guid found) ≡ true
+    by_listed : (found : Option Interface) (interfaces : List Interface) → is_address address owner (option_map (λ (i : Interface). (i.interface, i.owner)) found) ≡ true → is_ok (removal_of interfaces guid found) ≡ true
     by_listed None interfaces has = absurd cc
     by_listed (Some i) interfaces has = refl
 
-    by_entry : (found : Option Entry) → find (is_handle handle) db.handles ≡ found → is_address address owner (option_map (λ (i : Interface). (i.interface, i.owner)) (find (is_guid guid) (interfaces_in found))) ≡ true
+    by_entry : (found : Option HandleEntry) → find (is_handle handle) db.handles ≡ found → is_address address owner (option_map (λ (i : Interface). (i.interface, i.owner)) (find (is_guid guid) (interfaces_in found))) ≡ true
         → is_ok (remove_answer handle guid db) ≡ true
     by_entry None is has = absurd cc
     by_entry (Some entry) is has =
@@ -100,33 +100,17 @@ remove_done db handle guid address owner has = by_entry (find (is_handle handle)
 
 -- ---- images
 
--- where the database gave a handle it had room for one
-db_room : (full : Bool) (next handle : ℕ) → ◌≡◌ {A = Result ℕ WorldFault} (if full then Err Full else Ok next) (Ok handle) → (full ≡ false) × (handle ≡ next)
-db_room true next handle gives = absurd cc
-db_room false next handle gives = (refl, cc)
-
--- where no limit of memory is met, and a handle was given, no limit of images is met
-pub image_room : (soft now : Soft) (size : ℕ) (tested : Bool) (handle : ℕ) → soft ≡ now → (is_database_full now.database || tested) ≡ is_image_full size now → tested ≡ false
-    → ◌≡◌ {A = Result ℕ WorldFault} (if is_database_full soft.database then Err Full else Ok soft.database.next) (Ok handle) → is_image_full size soft ≡ false
-image_room soft now size tested handle same is none gives =
-    let room : is_database_full now.database ≡ false = ap (λ (s : Soft). is_database_full s.database) (sym same) ∙ (db_room (is_database_full soft.database) soft.database.next handle gives).0 in
-    ap (is_image_full size) same ∙ sym is ∙ rw (room, none) refl
-
-pub handle_is : (db : Database) (handle : ℕ) → ◌≡◌ {A = Result ℕ WorldFault} (if is_database_full db then Err Full else Ok db.next) (Ok handle) → handle ≡ db.next
-handle_is db handle gives = (db_room (is_database_full db) db.next handle gives).1
-
 -- with a handle alone
-pub kept_handle : (soft : Soft) (handle : ℕ) (new : Interface) (memory : List Segment) (db : Database) (images : List LoadedImage) → IsKept soft
-    → ◌≡◌ {A = Result ℕ WorldFault} (if is_database_full soft.database then Err Full else Ok soft.database.next) (Ok handle)
+pub kept_handle : (soft : Soft) (new : Interface) (memory : List Segment) (db : Database) (images : List LoadedImage) → IsKept soft → is_database_full soft.database ≡ false
     → memory ≡ soft.memory → db ≡ installed None new soft.database → images ≡ soft.images → IsKept (record soft { memory = memory; database = db; images = images })
-kept_handle soft handle new memory db images kept gives memory_is db_is images_is =
-    let accepted : is_ok (install_answer None new.guid soft.database) ≡ true = rw (db_room (is_database_full soft.database) soft.database.next handle gives).0 refl in
+kept_handle soft new memory db images kept room memory_is db_is images_is =
+    let accepted : is_ok (install_answer None new.guid soft.database) ≡ true = rw room refl in
     rw (memory_is, db_is, images_is) (installing soft None new kept accepted)
 
 -- with an image
 pub kept_added : (soft : Soft) (bytes : List ℕ) (entry subsystem device : ℕ) (memory : List Segment) (db : Database) (images : List LoadedImage) (next block : ℕ) → IsKept soft → entry < length bytes → is_image_full (length bytes) soft ≡ false
     → memory ≡ (image_added bytes entry subsystem device soft).memory → db ≡ (image_added bytes entry subsystem device soft).database → images ≡ (image_added bytes entry subsystem device soft).images
-    → next ≡ next_step (soft.next_image + length bytes) → block ≡ soft.next_block + taken block_size
+    → next ≡ next_step (soft.next_image + length bytes) → block ≡ soft.next_block + block_room block_size
     → IsKept (record soft { memory = memory; database = db; images = images; next_image = next; next_block = block })
 kept_added soft bytes entry subsystem device memory db images next block kept inside room memory_is db_is images_is next_is block_is =
     rw (memory_is, db_is, images_is, next_is, block_is) (adding soft bytes entry subsystem device kept inside room)
@@ -135,9 +119,9 @@ kept_added soft bytes entry subsystem device memory db images next block kept in
 pub db_dropped : (soft : Soft) (number : ℕ) (one : LoadedImage) (result : Result Removed DbRefusal) (after : Database) → IsKept soft → image_of number soft.images ≡ Some one
     → result ≡ remove_answer one.handle (known_guid LoadedImageProtocol) soft.database → OnOk result (after ≡ removed one.handle (known_guid LoadedImageProtocol) soft.database)
     → after ≡ removed one.handle (known_guid LoadedImageProtocol) soft.database
-db_dropped soft number one (Ok told) after kept found is ok = ok
+db_dropped soft number one (Ok removal) after kept found is ok = ok
 db_dropped soft number one (Err refusal) after kept found is ok =
-    let has = found_passes (λ (i : LoadedImage). nat_eq i.handle number) (is_installed soft.database) soft.images one found kept.installed in
+    let has = found_passes (λ (i : LoadedImage). nat_eq i.handle number) (is_installed soft.database) soft.images one found kept.database.installed in
     let done : is_ok (remove_answer one.handle (known_guid LoadedImageProtocol) soft.database) ≡ true = remove_done soft.database one.handle (known_guid LoadedImageProtocol) one.block firmware has in
     absurd (both_ways (is_ok (remove_answer one.handle (known_guid LoadedImageProtocol) soft.database)) (sym (ap is_ok is)) done)
 

@@ -88,6 +88,6 @@ only_at at thunks next place d rise is =
           let below : k < place = omega (arith, length-take place thunks) in
           let same : get_or (take place thunks) k nobody ≡ get_or thunks k nobody = get_or-take place thunks k nobody below in
           rw same (ne_eqb (address_at thunks k) at (λ e. omega (arith, rises_at 0 thunks next k place rise below is.within))));
-      behind = none_pass (is_thunk_at at) nobody (drop (suc place) thunks) (λ k h.
+      after = none_pass (is_thunk_at at) nobody (drop (suc place) thunks) (λ k h.
           ne_eqb (address_at (drop (suc place) thunks) k) at (λ e. omega (arith, low_at ((get_or thunks place nobody).number + 1) (drop (suc place) thunks) next k (rise_behind 0 thunks next place rise is.within) h)));
     }

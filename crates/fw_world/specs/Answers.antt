@@ -1,4 +1,4 @@
--- What stays where a call of the world is refused.
+-- What stays as it was if a call of the world is refused.
 use Rattle.std.specs.Prelude.{◌≡◌, Result, Ok, Err}
 use Rattle.handle_db.specs.declared.refusal.DbRefusal.{DbRefusal}
 use Rattle.handle_db.specs.declared.refusal.DbRefusal.TheVariants as refusal
@@ -7,7 +7,7 @@ use Rattle.open_records.specs.declared.fault.RecFault.TheVariants as rec_fault
 use Rattle.world_model.specs.declared.fault.WorldFault.{WorldFault}
 use Rattle.world_model.specs.declared.fault.WorldFault.TheVariants.{Full, NotThere, OutOfMemory}
 
--- After a refusal other than want of memory all is as before.
+-- After a refusal other than OutOfMemory all is as before.
 abbrev pub AsBefore : {T W : Type 0} → Result T WorldFault → W → W → Type 0
 AsBefore (Ok value) old new = Unit {0}
 AsBefore (Err Full) old new = new ≡ old

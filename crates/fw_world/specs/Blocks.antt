@@ -1,6 +1,6 @@
--- What the code knows of an image, as its loaded image block tells it.
-use Rattle.world_model.specs.Images.{Told}
+-- What a loaded image block says of an image, from what the code knows of it.
+use Rattle.world_model.specs.Images.{BlockContents}
 use Rattle.fw_world.specs.declared.image_block.ImageInfo.{ImageInfo}
 
-abbrev pub told_by : ImageInfo → Told
-told_by info = record { parent = info.parent; device = info.device; base = info.base; size = info.size; subsystem = info.subsystem }
+abbrev pub contents_of : ImageInfo → BlockContents
+contents_of info = record { parent = info.parent; device = info.device; base = info.base; size = info.size; subsystem = info.subsystem }

@@ -8,7 +8,7 @@ use Rattle.world_model.specs.Kept.{numbers_rise}
 abbrev pub DoRise : List Thunk → Type 0
 DoRise thunks = (next : ℕ) × (numbers_rise 0 thunks next ≡ true)
 
--- the thunk of an address stands at a place
+-- the thunk of an address is at a place
 pub record IsPlaceOf (at : ℕ) (thunks : List Thunk) (place : ℕ) : Type 0 where
   pub within : place < length thunks
   pub here : (other : Thunk) → thunk_address (slice_index_or thunks place other).number ≡ at

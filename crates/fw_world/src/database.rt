@@ -1,25 +1,24 @@
 //! The handle database of the opening state.
-ghost use Rattle.std.specs.Prelude.{◌≡◌, None, IfOk, OnErr, OnOk, Ok, Err, is_ok, true, if◌then◌else◌};
-ghost use Rattle.handle_db.specs.Installing.{install_answer, installed, is_full};
-ghost use Rattle.world_model.specs.Faults.{Gives};
+ghost use Rattle.std.specs.Prelude.{◌≡◌, None, IfOk, OnErr, OnOk, is_ok, true};
+ghost use Rattle.handle_db.specs.Installing.{install_answer, installed};
 ghost use Rattle.world_model.specs.Interfaces.{firmware, interface as interface_value};
 ghost use Rattle.world_model.specs.Opening.{opening_database};
 
-use fw_types::{Guid, Handle, Known, OutOfMemory};
+use fw_types::{Guid, Handle, Known, MOST_HANDLES, OutOfMemory};
+use guest_memory::address_map::{BUS_BINDING, FIRMWARE_IMAGE};
 use handle_db::{Db, DbRefusal};
 use std::alloc::Global;
-use world_model::WorldFault;
-use world_model::addresses::{BUS_BINDING, FIRMWARE_IMAGE, MOST_HANDLES};
 
 /// Installs an interface of the firmware on a new handle, for which there is room.
 ///
 /// # Errors
 ///
-/// `OutOfMemory` where there is no memory; the database is then as before.
+/// `OutOfMemory` if there is no memory; the database is then as before.
 pub fn add_handle(db: &mut Db, guid: Guid, interface: u64) -> Result<Handle, OutOfMemory>
     requires { is_ok (install_answer None guid db.old) ≡ true }
     ensures handle { IfOk result (λ handle. handle ≡ db.old.next) }
-    ensures ok { OnOk result (db.new ≡ installed None (interface_value guid interface firmware) db.old) }
+    ensures ok { OnOk result (db.new ≡
+        installed None (interface_value guid interface firmware) db.old) }
     ensures err { OnErr result (db.new ≡ db.old) }
 {
     match db.install(None, guid, interface, Handle::firmware()) {
@@ -29,25 +28,8 @@ pub fn add_handle(db: &mut Db, guid: Guid, interface: u64) -> Result<Handle, Out
     }
 }
 
-/// Installs an interface of the firmware on a new handle.
-///
-/// # Errors
-///
-/// `Full` where a limit on handles is met, `OutOfMemory` where there is no memory; the database is then
-/// as before.
-pub fn new_handle(db: &mut Db, guid: Guid, interface: u64) -> Result<Handle, WorldFault>
-    ensures answer { Gives result (if is_full db.old then Err WorldFault.Full else Ok db.old.next) }
-    ensures ok { OnOk result (db.new ≡ installed None (interface_value guid interface firmware) db.old) }
-    ensures err { OnErr result (db.new ≡ db.old) }
-{
-    match db.install(None, guid, interface, Handle::firmware()) {
-        Ok(handle) => Ok(handle),
-        Err(DbRefusal::OutOfMemory) => Err(WorldFault::OutOfMemory),
-        Err(_) => Err(WorldFault::Full),
-    }
-}
-
-/// Handle 1 with the loaded image of the firmware, and handle 2 with the binding of the PCI bus driver.
+/// Handle 1 with the loaded image of the firmware, and handle 2 with the binding of the PCI bus
+/// driver.
 pub fn opening(alloc: Global) -> Result<Db, OutOfMemory>
     ensures { IfOk result (λ db. db ≡ opening_database) }
 {

@@ -1,18 +1,16 @@
 //! The blocks that the firmware shows to drivers: loaded image blocks and the bus driver's binding.
-ghost use Rattle.std.specs.Prelude.{◌≡◌, ◌+◌, ◌≤◌, length};
-ghost use Rattle.byteorder.specs.Endian.{little_bytes};
-ghost use Rattle.service_thunks.specs.Tables.{put};
-ghost use Rattle.world_model.specs.Images.{block_bytes as told_bytes, code_type as code_type_of, data_type as data_type_of};
-ghost use Rattle.fw_world.specs.Blocks.{told_by};
+ghost use Rattle.std.specs.Prelude.{◌≡◌};
+ghost use Rattle.world_model.specs.Images.{block_bytes as bytes_of_block, code_type as code_type_of, data_type as data_type_of};
+ghost use Rattle.fw_world.specs.Blocks.{contents_of};
 ghost use Rattle.world_model.specs.Tables.{bus_binding};
 
-use fw_types::Handle;
-use world_model::addresses::{BUS_START, BUS_STOP, BUS_SUPPORTED, SYSTEM_TABLE};
+use fw_types::{Handle, RUNTIME_DRIVER, put_u32, put_u64};
+use guest_memory::address_map::{BUS_START, BUS_STOP, BUS_SUPPORTED, SYSTEM_TABLE};
 
-/// The revision of the loaded image protocol (UEFI 2.8, 'EFI Loaded Image Protocol').
+/// The revision of the loaded image protocol (UEFI 2.8, 9.1: EFI Loaded Image Protocol).
 const REVISION: u32 = 0x1000;
 
-/// What a loaded image block tells of an image.
+/// What a loaded image block says of an image.
 #[derive(Clone, Copy, Debug)]
 pub struct ImageInfo {
     /// The handle of the image that loaded it, or 0.
@@ -31,13 +29,17 @@ pub struct ImageInfo {
 fn memory_types(subsystem: u16) -> (u32, u32)
     ensures { (result.0 ≡ code_type_of subsystem) × (result.1 ≡ data_type_of subsystem) }
 {
-    if subsystem == 12 { (5, 6) } else { (3, 4) }
+    if subsystem == RUNTIME_DRIVER {
+        (5, 6)
+    } else {
+        (3, 4)
+    }
 }
 
-/// A loaded image block (UEFI 2.8, 'EFI Loaded Image Protocol'). Takes no memory.
+/// A loaded image block (UEFI 2.8, 9.1: EFI Loaded Image Protocol). Takes no memory.
 #[tactic(auto, unfolding(world_model::specs::Images::block_bytes))]
 pub fn block_bytes(info: &ImageInfo) -> [u8; 96]
-    ensures { result ≡ told_bytes (told_by info.now) }
+    ensures { result ≡ bytes_of_block (contents_of info.now) }
 {
     let (code_type, data_type) = memory_types(info.subsystem);
     let mut block = [0; 96];
@@ -57,8 +59,8 @@ pub fn block_bytes(info: &ImageInfo) -> [u8; 96]
     block
 }
 
-/// The PCI bus driver's binding (UEFI 2.8, 'EFI Driver Binding Protocol'), of Version 10. Takes no
-/// memory.
+/// The PCI bus driver's binding (UEFI 2.8, 11.1: EFI Driver Binding Protocol), of Version 10. Takes
+/// no memory.
 #[tactic(auto, unfolding(world_model::specs::Tables::bus_binding))]
 pub fn binding_bytes() -> [u8; 48]
     ensures { result ≡ bus_binding }
@@ -71,26 +73,4 @@ pub fn binding_bytes() -> [u8; 48]
     put_u64(&mut block, 32, Handle::firmware().get());
     put_u64(&mut block, 40, Handle::bus_driver().get());
     block
-}
-
-fn put_u32(block: &mut [u8], at: usize, value: u32)
-    requires { at + 4 ≤ length block.old }
-    ensures { block.new ≡ put at (little_bytes 4 value) block.old }
-{
-    put_bytes(block, at, &value.to_le_bytes());
-}
-
-fn put_u64(block: &mut [u8], at: usize, value: u64)
-    requires { at + 8 ≤ length block.old }
-    ensures { block.new ≡ put at (little_bytes 8 value) block.old }
-{
-    put_bytes(block, at, &value.to_le_bytes());
-}
-
-#[tactic(auto, unfolding(service_thunks::specs::Tables::put))]
-fn put_bytes(block: &mut [u8], at: usize, bytes: &[u8])
-    requires { at + length bytes.now ≤ length block.old }
-    ensures { block.new ≡ put at bytes.now block.old }
-{
-    block[at..at + bytes.len()].copy_from_slice(bytes);
 }

@@ -1,10 +1,11 @@
-//! The one state of the firmware, the world: what drivers see of memory, the handle database, the open
-//! records, the images that are loaded and the thunks into them, and beside them the units and the events
-//! of the command at hand.
+//! The one state of the firmware, the world: what drivers see of memory, the handle database, the
+//! open records, the images that are loaded and the thunks into them, and beside them the units and
+//! the events of the current command.
 //!
-//! A contract sees a `World` as the record `Held` of `world_model`: the state now, and the soft parts
-//! that its open marks keep. Each call that changes it says by its clause `now` which single change of
-//! `world_model` it is, and by its clause `kept` that no mark keeps anything else than before.
+//! A contract sees a `World` as the record `WorldView` of `world_model`: the state now, and the
+//! soft parts that its open marks keep. Each call that changes it says by its clause `now` which
+//! single change of `world_model` it is, and by its clause `marks` that each mark keeps what it
+//! kept before.
 #![tactic(auto)]
 
 mod cap;
@@ -13,6 +14,7 @@ mod image_block;
 mod mapping;
 mod mark;
 mod opens;
+mod plain_part;
 mod soft_part;
 mod stack;
 mod tables;

@@ -1,10 +1,10 @@
-//! Open records in the world: what an agent, an interface, a handle or an undo takes along.
+//! Open records in the world: which of them go with an agent, an interface, a handle or an undo.
 ghost use Rattle.std.specs.Prelude.{◌≡◌, OnOk};
 ghost use Rattle.world_model.specs.Marks.{stacks};
 
 use crate::World;
 use crate::tests::bytes_of;
-use fw_types::{Attr, Guid, Handle, Known, OutOfMemory};
+use fw_types::{Attr, BOOT_SERVICE_DRIVER, Guid, Handle, Known, OutOfMemory};
 use open_records::RecFault;
 use std::process::Abort;
 use std::test::Fail;
@@ -12,9 +12,9 @@ use std::test::Fail;
 /// An open: its handle and protocol, and the agent, the controller and the attribute's bits.
 type Open = (u64, Known, (u64, u64, u32));
 
-/// Enters an open where it may be entered, and tells whether it was.
+/// Enters an open if it may be entered, and says whether it was.
 fn open(world: &mut World, asked: Open) -> Result<bool, RecFault>
-    ensures kept { OnOk result (world.new.kept ≡ world.old.kept) }
+    ensures marks { OnOk result (world.new.marks ≡ world.old.marks) }
     ensures stacks { OnOk result (stacks world.new.now.soft ≡ stacks world.old.now.soft) }
 {
     let (number, protocol, (agent, controller, bits)) = asked;
@@ -41,12 +41,12 @@ fn open(world: &mut World, asked: Open) -> Result<bool, RecFault>
     Ok(true)
 }
 
-/// A world with an image, and with a disk and its child, each with PCI I/O, the disk with a device path
-/// too. Their handles are 3, 4 and 5.
+/// A world with an image, and with a disk and its child, each with PCI I/O, the disk with a device
+/// path too. Their handles are 3, 4 and 5.
 fn with_disk(rt: &impl AllocGlobal) -> Result<(World, [Handle; 3]), Fail> {
     let mut world = World::new(rt.alloc())?;
     let (pci, path) = (Guid::known(Known::PciIo), Guid::known(Known::DevicePath));
-    let driver = world.add_image(bytes_of(rt, 0x40, 0x11)?, 0, 11, 0)?;
+    let driver = world.add_image(bytes_of(rt, 0x40, 0x11)?, 0, BOOT_SERVICE_DRIVER, 0)?;
     let disk = world.install(None, pci, 0, driver)?;
     let _ = world.install(Some(disk), path, 0, driver)?;
     let child = world.install(None, pci, 0, driver)?;
@@ -75,27 +75,7 @@ const OPENS: [Open; 9] = [
     (5, Known::PciIo, (5, 0, 0x02)),
 ];
 
-/// Which opens may be entered.
-#[test]
-fn opens(rt: HostRuntime) -> Result<(), Fail> {
-    let (mut world, [driver, disk, child]) = with_disk(&rt)?;
-    assert_eq!(rt; (driver.get(), disk.get(), child.get()), (3, 4, 5));
-    open_all(&rt, &mut world, &OPENS)?;
-    // another driver, a dead agent, a dead controller, and a protocol that is not there
-    let refused: [Open; 4] = [
-        (4, Known::PciIo, (1, 4, 0x10)),
-        (4, Known::PciIo, (6, 0, 0x02)),
-        (4, Known::PciIo, (3, 6, 0x02)),
-        (5, Known::DevicePath, (3, 0, 0x02)),
-    ];
-    for asked in refused {
-        assert!(rt; !open(&mut world, asked)?);
-    }
-    assert_eq!(rt; world.entries().len(), 8);
-    Ok(())
-}
-
-/// How many records go with each way of leaving.
+/// How many records each way of leaving removes.
 #[test]
 fn leaves(rt: HostRuntime) -> Result<(), Fail> {
     let (mut world, [_, disk, child]) = with_disk(&rt)?;
@@ -110,7 +90,8 @@ fn leaves(rt: HostRuntime) -> Result<(), Fail> {
     Ok(())
 }
 
-/// A world with image 3, disk 4 and child 5, and with opens that name all of them, and their handles.
+/// A world with image 3, disk 4 and child 5, and with opens that name all of them, and their
+/// handles.
 fn with_opens(rt: &(impl AllocGlobal + Abort)) -> Result<(World, [Handle; 3]), Fail> {
     let (mut world, handles) = with_disk(rt)?;
     let opens: [Open; 6] = [
@@ -125,14 +106,14 @@ fn with_opens(rt: &(impl AllocGlobal + Abort)) -> Result<(World, [Handle; 3]), F
     Ok((world, handles))
 }
 
-/// An interface goes with its records. A handle that goes is named by none, as agent or as controller,
-/// and one that has another interface stays named.
+/// The records of an interface are removed with it. A handle that is no longer live is named by
+/// none, as agent or as controller, and one that has another interface is still named.
 #[test]
-fn opens_that_go(rt: HostRuntime) -> Result<(), Fail> {
+fn records_of_removed_interfaces(rt: HostRuntime) -> Result<(), Fail> {
     let (mut world, [driver, disk, child]) = with_opens(&rt)?;
     let (pci, path) = (Guid::known(Known::PciIo), Guid::known(Known::DevicePath));
     world.uninstall(child, pci)?;
-    // those of the child's interface went, and those that named the child
+    // without those of the child's interface, and those that named the child
     assert_eq!(rt; world.entries().len(), 2);
     assert_eq!(rt; world.entries().list(disk, pci)?.len(), 1);
     world.uninstall(disk, pci)?;
@@ -148,7 +129,7 @@ fn opens_that_go(rt: HostRuntime) -> Result<(), Fail> {
 
 /// Removes an agent's records on a handle.
 fn leave_all(world: &mut World, handle: Handle, agent: u64) -> Result<u32, OutOfMemory>
-    ensures kept { OnOk result (world.new.kept ≡ world.old.kept) }
+    ensures marks { OnOk result (world.new.marks ≡ world.old.marks) }
     ensures stacks { OnOk result (stacks world.new.now.soft ≡ stacks world.old.now.soft) }
 {
     world.leave_all(handle, agent)

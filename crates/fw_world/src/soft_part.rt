@@ -5,12 +5,12 @@ ghost use Rattle.handle_db.specs.Database.{Gives as GivesDb, interface_of, is_li
 ghost use Rattle.open_records.specs.OpenRecords.{records_of};
 ghost use Rattle.open_records.specs.Adding.{Gives as GivesRecord, is_full as is_table_full};
 ghost use Rattle.open_records.specs.Verdicts.{judge, may_enter};
-ghost use Rattle.world_model.specs.Records.{all_left, child_left, gone, is_none_or_live, record_entered, records_left, weak_dropped};
-ghost use Rattle.handle_db.specs.Installing.{is_full as is_database_full};
-ghost use Rattle.world_model.specs.declared.addresses.TheConstants.{IMAGE_END as last_image, MOST_LEVELS as most_levels, MOST_LISTED as most_listed};
+ghost use Rattle.world_model.specs.Records.{all_left, child_left, is_none_or_live, record_entered, records_left, removed_count, weak_dropped};
+ghost use Rattle.fw_types.specs.declared.limits.TheConstants.{MOST_LEVELS as most_levels, MOST_LISTED as most_listed};
+ghost use Rattle.guest_memory.specs.declared.address_map.TheConstants.{IMAGE_END as last_image};
 ghost use Rattle.world_model.specs.World.{with_memory, with_tpl};
 ghost use Rattle.world_model.specs.Faults.{Gives};
-ghost use Rattle.world_model.specs.Blocks.{allot_answer, block_added, block_freed, free_answer, is_block_full, is_image_block, taken as taken_by};
+ghost use Rattle.world_model.specs.Blocks.{allot_answer, block_added, block_freed, free_answer, is_block_full, is_image_block, block_room as block_room_of};
 ghost use Rattle.world_model.specs.Interfaces.{firmware, install_answer, interface as interface_value, interface_added, interface_removed, is_lasting, uninstall_answer};
 ghost use Rattle.world_model.specs.Images.{add_answer, block_bytes as block_value, drop_answer, entry_of as entry_value, image_added, image_at as image_value, image_dropped, image_from, image_of as image_found, is_image_full, next_step as first_step, without_image};
 ghost use Rattle.world_model.specs.Thunks.{thunk_answer, thunk_at as thunk_value, thunk_made};
@@ -19,79 +19,57 @@ ghost use Rattle.world_model.specs.Kept.{IsKept};
 ghost use Rattle.world_model.specs.Opening.{opening_soft};
 ghost use Rattle.fw_world.specs.Answers.{AsBefore};
 
-use crate::database::{new_handle, opening};
+use crate::database::{add_handle, opening};
 use crate::image_block::{ImageInfo, block_bytes};
 use crate::mapping::{map_free, map_image};
-use crate::opens::{ANY_BIT, CHILD_BIT, WEAK_BITS, drop_records};
-use crate::stack::{frame, list_base, map_list, stack_base, stack_bytes};
+use crate::opens::drop_records;
+use crate::plain_part::PlainPart;
+use crate::stack::{frame, map_list, stack_base, stack_bytes, unmap_level};
 use crate::tables::tables;
 use crate::thunks::{drop_from_segment, thunk_address, thunk_with};
 use ebc_machine::Cpu;
-use fw_types::{Attr, Guid, Handle, Known, OutOfMemory};
+use fw_types::{Attr, Guid, Handle, Known, MOST_RECORDS, MOST_THUNKS, OutOfMemory};
+use guest_memory::address_map::{BLOCK_END, IMAGE_END, IMAGE_STEP};
 use guest_memory::{GuestMem, MemRefusal, Memory, SegKind};
 use handle_db::{Db, DbRefusal};
 use open_records::{RecFault, Records};
 use std::alloc::Global;
 use std::marker::Model;
-use world_model::addresses::{
-    BLOCK_END, FIRST_BLOCK, FIRST_IMAGE, IMAGE_END, IMAGE_STEP, MOST_RECORDS, MOST_THUNKS,
-    TPL_APPLICATION,
-};
 use world_model::{LoadedImage, Thunk, WorldFault};
 
 /// The size of a loaded image block.
 const BLOCK_SIZE: u64 = 96;
 
-/// What an undo puts back: the memory of drivers, the handle database, the open records, the images that
-/// are loaded, the live thunks, the task priority level, the addresses of the next image and the next
-/// block, and the number of the next thunk.
+/// What an undo puts back: the memory of drivers, the handle database, the open records and the
+/// plain fields beside them.
 #[derive(Drop)]
 pub struct SoftPart {
     alloc: Global,
     memory: Memory,
     database: Db,
     records: Records,
-    images: Vec<LoadedImage>,
-    thunks: Vec<Thunk>,
-    tpl: u8,
-    next_image: u64,
-    next_block: u64,
-    next_thunk: u32,
+    plain: PlainPart,
 }
 
 impl Model for SoftPart {
     ghost use Rattle.world_model.specs.World.{Soft};
     ghost use Rattle.world_model.specs.Kept.{IsKept};
+    ghost use Rattle.fw_world.specs.Soft.{soft_of};
 
     ghost Value = { Soft };
 
-    ghost view = { λ inside. record {
-      memory = inside.memory;
-      database = inside.database;
-      records = inside.records;
-      images = inside.images.items;
-      thunks = inside.thunks.items;
-      tpl = inside.tpl;
-      next_image = inside.next_image;
-      next_block = inside.next_block;
-      next_thunk = inside.next_thunk;
-    } };
+    ghost view = { λ inside. soft_of inside.memory inside.database inside.records inside.plain };
 
-    ghost invariant = { λ inside. IsKept (record {
-      memory = inside.memory;
-      database = inside.database;
-      records = inside.records;
-      images = inside.images.items;
-      thunks = inside.thunks.items;
-      tpl = inside.tpl;
-      next_image = inside.next_image;
-      next_block = inside.next_block;
-      next_thunk = inside.next_thunk;
-    }) };
+    ghost invariant = { λ inside.
+        IsKept (soft_of inside.memory inside.database inside.records inside.plain) };
 }
 
 impl SoftPart {
-    /// The opening state's.
+    /// The soft part of the opening state.
+    ///
+    /// # Errors
+    ///
+    /// `OutOfMemory` if there is no memory.
     pub fn new(alloc: Global) -> Result<SoftPart, OutOfMemory>
         ensures { IfOk result (λ soft. soft ≡ opening_soft) }
     {
@@ -100,16 +78,15 @@ impl SoftPart {
             memory: tables(alloc)?,
             database: opening(alloc)?,
             records: Records::new(alloc, MOST_RECORDS),
-            images: Vec::new(alloc),
-            thunks: Vec::new(alloc),
-            tpl: TPL_APPLICATION,
-            next_image: FIRST_IMAGE,
-            next_block: FIRST_BLOCK,
-            next_thunk: 0,
+            plain: PlainPart::new(alloc),
         })
     }
 
     /// An equal soft part.
+    ///
+    /// # Errors
+    ///
+    /// `OutOfMemory` if there is no memory.
     pub fn copy(&self) -> Result<SoftPart, OutOfMemory>
         ensures { IfOk result (λ copy. copy ≡ self.now) }
     {
@@ -118,12 +95,7 @@ impl SoftPart {
             memory: self.memory.copy()?,
             database: self.database.copy()?,
             records: self.records.copy()?,
-            images: Vec::from_slice(self.alloc, self.images.as_slice())?,
-            thunks: Vec::from_slice(self.alloc, self.thunks.as_slice())?,
-            tpl: self.tpl,
-            next_image: self.next_image,
-            next_block: self.next_block,
-            next_thunk: self.next_thunk,
+            plain: self.plain.copy(self.alloc)?,
         })
     }
 
@@ -152,14 +124,14 @@ impl SoftPart {
     pub fn tpl(&self) -> u8
         ensures { result ≡ self.now.tpl }
     {
-        self.tpl
+        self.plain.tpl
     }
 
     /// Sets the task priority level.
     pub fn set_tpl(&mut self, tpl: u8)
         ensures { self.new ≡ with_tpl tpl self.old }
     {
-        self.tpl = tpl;
+        self.plain.tpl = tpl;
     }
 
     // ---- blocks
@@ -171,10 +143,14 @@ impl SoftPart {
         if self.memory.is_full(SegKind::Pool, size) {
             return true;
         }
-        self.next_block + taken(size) > BLOCK_END
+        self.plain.next_block + block_room(size) > BLOCK_END
     }
 
-    /// Makes a block at the next address, unless a limit is met.
+    /// Makes a block at the next address.
+    ///
+    /// # Errors
+    ///
+    /// `Full` if a limit is met, `OutOfMemory` if there is no memory.
     pub fn allot(&mut self, bytes: Vec<u8>, kind: SegKind) -> Result<u64, WorldFault>
         requires { is_block kind ≡ true }
         ensures answer { Gives result (allot_answer (length bytes.items) self.old) }
@@ -185,9 +161,9 @@ impl SoftPart {
         if self.is_block_full(size) {
             return Err(WorldFault::Full);
         }
-        let at = self.next_block;
+        let at = self.plain.next_block;
         map_free(&mut self.memory, at, bytes, kind)?;
-        self.next_block = at + taken(size);
+        self.plain.next_block = at + block_room(size);
         Ok(at)
     }
 
@@ -195,10 +171,14 @@ impl SoftPart {
     fn is_image_block(&self, at: u64) -> bool
         ensures { result ≡ is_image_block at self.now.images }
     {
-        self.images.iter().any(|image| image.block == at)
+        self.plain.images.iter().any(|image| image.block == at)
     }
 
-    /// Takes out a block of the kind, but no loaded image block.
+    /// Removes a block of the kind, but no loaded image block.
+    ///
+    /// # Errors
+    ///
+    /// `NotThere` if no such block begins at the address.
     pub fn free(&mut self, at: u64, kind: SegKind) -> Result<(), WorldFault>
         requires { is_block kind ≡ true }
         ensures answer { result ≡ free_answer at kind self.old }
@@ -248,7 +228,8 @@ impl SoftPart {
     /// Puts a byte in place of each of so many from an address on.
     pub fn fill(&mut self, at: u64, n: u64, byte: u8)
         requires { is_writable_range self.old.memory at n ≡ true }
-        ensures { self.new ≡ with_memory (put_bytes self.old.memory at (replicate n byte)) self.old }
+        ensures { self.new ≡
+            with_memory (put_bytes self.old.memory at (replicate n byte)) self.old }
     {
         self.memory.fill(at, n, byte);
     }
@@ -256,6 +237,10 @@ impl SoftPart {
     // ---- interfaces
 
     /// Installs an interface on a handle or on a new one.
+    ///
+    /// # Errors
+    ///
+    /// Those of `Db::install`.
     pub fn install(
         &mut self,
         handle: Option<Handle>,
@@ -264,13 +249,18 @@ impl SoftPart {
         owner: Handle,
     ) -> Result<Handle, DbRefusal>
         ensures answer { GivesDb result (install_answer handle guid self.old) }
-        ensures ok { OnOk result (self.new ≡ interface_added handle (interface_value guid interface owner) self.old) }
+        ensures ok { OnOk result (self.new ≡
+            interface_added handle (interface_value guid interface owner) self.old) }
         ensures err { OnErr result (self.new ≡ self.old) }
     {
         self.database.install(handle, guid, interface, owner)
     }
 
     /// Uninstalls an interface that does not last as long as an image, with its records.
+    ///
+    /// # Errors
+    ///
+    /// `BadHandle` if the handle is not live, `NotThere` if it does not have the protocol.
     pub fn uninstall(&mut self, handle: Handle, guid: Guid) -> Result<(), DbRefusal>
         requires { is_lasting handle guid self.old ≡ false }
         ensures answer { result ≡ uninstall_answer handle guid self.old }
@@ -284,7 +274,12 @@ impl SoftPart {
 
     // ---- open records
 
-    /// Enters an open of an interface that is there, by a live agent, for none or for a live controller.
+    /// Enters an open of an interface that is there, by a live agent, for none or for a live
+    /// controller.
+    ///
+    /// # Errors
+    ///
+    /// `Full` if there is no room for one more record, `OutOfMemory` if there is no memory.
     pub fn enter(
         &mut self,
         handle: Handle,
@@ -296,72 +291,83 @@ impl SoftPart {
         requires there { is_some (interface_of handle guid self.old.database) ≡ true }
         requires agent { is_live agent self.old.database ≡ true }
         requires controller { is_none_or_live controller self.old.database ≡ true }
-        requires verdict { may_enter (judge (records_of self.old.records.held handle guid) agent controller attr) ≡ true }
-        ensures answer { GivesRecord result (is_table_full handle guid agent controller attr self.old.records) }
-        ensures ok { OnOk result (self.new ≡ record_entered handle guid agent controller attr self.old) }
+        requires verdict { may_enter (judge
+            (records_of self.old.records.entries handle guid) agent controller attr) ≡ true }
+        ensures answer { GivesRecord result
+            (is_table_full handle guid agent controller attr self.old.records) }
+        ensures ok { OnOk result (self.new ≡
+            record_entered handle guid agent controller attr self.old) }
         ensures err { OnErr result (self.new ≡ self.old) }
     {
-        // an attribute's bits are legal, which its contract tells of `bits` alone
+        // The bits of an attribute are legal; its contract says so of `bits` alone.
         let _ = attr.bits();
         self.records.add(handle, guid, agent, controller, attr)
     }
 
-    /// Takes out an agent's records for a controller on an interface, and answers how many they were.
+    /// Removes an agent's records for a controller on an interface, and answers how many they were.
     pub fn leave(&mut self, handle: Handle, guid: Guid, agent: u64, controller: u64) -> u32
-        ensures number { result ≡ gone self.old self.new }
+        ensures number { result ≡ removed_count self.old self.new }
         ensures now { self.new ≡ records_left handle guid agent controller self.old }
     {
         let before = self.records.len();
-        self.records
-            .drop_from(handle, guid, Some(agent), Some(controller), ANY_BIT);
+        self.records.drop_from(handle, guid, Some(agent), Some(controller), Attr::ALL_BITS);
         before.saturating_sub(self.records.len())
     }
 
-    /// Takes out an agent's records on a handle, and answers how many they were.
+    /// Removes an agent's records on a handle, and answers how many they were.
     pub fn leave_all(&mut self, handle: Handle, agent: u64) -> u32
-        ensures number { result ≡ gone self.old self.new }
+        ensures number { result ≡ removed_count self.old self.new }
         ensures now { self.new ≡ all_left handle agent self.old }
     {
         let before = self.records.len();
-        self.records.drop_on(handle, Some(agent), None, ANY_BIT);
+        self.records
+            .drop_on(handle, Some(agent), None, Attr::ALL_BITS);
         before.saturating_sub(self.records.len())
     }
 
-    /// Takes out an agent's records for a child on a handle, and answers how many they were.
+    /// Removes an agent's records for a child on a handle, and answers how many they were.
     pub fn leave_child(&mut self, handle: Handle, agent: u64, child: Handle) -> u32
-        ensures number { result ≡ gone self.old self.new }
+        ensures number { result ≡ removed_count self.old self.new }
         ensures now { self.new ≡ child_left handle agent child self.old }
     {
         let before = self.records.len();
-        self.records
-            .drop_on(handle, Some(agent), Some(child.get()), CHILD_BIT);
+        self.records.drop_on(
+            handle,
+            Some(agent),
+            Some(child.get()),
+            Attr::BY_CHILD_CONTROLLER,
+        );
         before.saturating_sub(self.records.len())
     }
 
-    /// Takes out the records on an interface that keep nobody out, and answers how many they were.
+    /// Removes the records on an interface that keep nobody out, and answers how many they were.
     pub fn drop_weak(&mut self, handle: Handle, guid: Guid) -> u32
-        ensures number { result ≡ gone self.old self.new }
+        ensures number { result ≡ removed_count self.old self.new }
         ensures now { self.new ≡ weak_dropped handle guid self.old }
     {
         let before = self.records.len();
-        self.records.drop_from(handle, guid, None, None, WEAK_BITS);
+        self.records
+            .drop_from(handle, guid, None, None, Attr::WEAK_BITS);
         before.saturating_sub(self.records.len())
     }
 
     // ---- images
 
-    /// Whether one more image of so many bytes passes a limit of memory or addresses.
-    fn is_image_full(&self, size: u64) -> bool
-        ensures { (is_database_full self.now.database || result) ≡ is_image_full size self.now }
+    /// Whether one more image of so many bytes passes a limit.
+    pub fn is_image_full(&self, size: u64) -> bool
+        ensures { result ≡ is_image_full size self.now }
     {
-        if self.memory.is_full(SegKind::Image, size) {
+        if self.database.is_full() || self.memory.is_full(SegKind::Image, size) {
             return true;
         }
-        self.next_image + size > IMAGE_END || self.is_block_full(BLOCK_SIZE)
+        self.plain.next_image + size > IMAGE_END || self.is_block_full(BLOCK_SIZE)
     }
 
-    /// Maps an image and its loaded image block, which becomes the interface of a new handle, unless a
-    /// limit is met.
+    /// Maps an image and its loaded image block, which becomes the interface of a new handle.
+    ///
+    /// # Errors
+    ///
+    /// `Full` if a limit is met (`is_image_full`), `OutOfMemory` if there is no memory.
     pub fn add_image(
         &mut self,
         bytes: Vec<u8>,
@@ -371,33 +377,34 @@ impl SoftPart {
     ) -> Result<Handle, WorldFault>
         requires { entry < length bytes.items }
         ensures answer { Gives result (add_answer (length bytes.items) self.old) }
-        ensures ok { OnOk result (self.new ≡ image_added bytes.items entry subsystem device self.old) }
+        ensures ok { OnOk result (self.new ≡
+            image_added bytes.items entry subsystem device self.old) }
         ensures refused { AsBefore result self.old self.new }
     {
         let size = bytes.len() as u64;
         if self.is_image_full(size) {
             return Err(WorldFault::Full);
         }
-        let (base, block) = (self.next_image, self.next_block);
-        let told = self.told_of(size, subsystem, device)?;
-        self.images.reserve(1)?;
+        let (base, block) = (self.plain.next_image, self.plain.next_block);
+        let contents = self.block_contents(size, subsystem, device)?;
+        self.plain.images.reserve(1)?;
         let guid = Guid::known(Known::LoadedImage);
-        let handle = new_handle(&mut self.database, guid, block)?;
-        map_image(&mut self.memory, block, told, base, bytes)?;
-        self.images.push(LoadedImage {
+        let handle = add_handle(&mut self.database, guid, block)?;
+        map_image(&mut self.memory, block, contents, base, bytes)?;
+        self.plain.images.push(LoadedImage {
             handle,
             base,
             entry: base + u64::from(entry),
             block,
         })?;
-        self.next_image = next_step(base + size);
-        self.next_block = block + taken(BLOCK_SIZE);
+        self.plain.next_image = next_step(base + size);
+        self.plain.next_block = block + block_room(BLOCK_SIZE);
         Ok(handle)
     }
 
     /// The loaded image block of the next image.
-    fn told_of(&self, size: u64, subsystem: u16, device: u64) -> Result<Vec<u8>, OutOfMemory>
-        ensures { IfOk result (λ told. told.items ≡ block_value (record {
+    fn block_contents(&self, size: u64, subsystem: u16, device: u64) -> Result<Vec<u8>, OutOfMemory>
+        ensures { IfOk result (λ bytes. bytes.items ≡ block_value (record {
           parent = firmware;
           device = device;
           base = self.now.next_image;
@@ -408,30 +415,35 @@ impl SoftPart {
         let info = ImageInfo {
             parent: Handle::firmware().get(),
             device,
-            base: self.next_image,
+            base: self.plain.next_image,
             size,
             subsystem,
         };
         Ok(Vec::from_slice(self.alloc, &block_bytes(&info))?)
     }
 
-    /// Takes out an image with its loaded image block, its interface with the records, and its thunks.
+    /// Removes an image with its loaded image block, its interface with the records, and its
+    /// thunks.
+    ///
+    /// # Errors
+    ///
+    /// `NotThere` if the handle is not that of an image.
     pub fn drop_image(&mut self, handle: Handle) -> Result<(), WorldFault>
         ensures answer { result ≡ drop_answer handle self.old }
         ensures ok { OnOk result (self.new ≡ image_dropped handle self.old) }
         ensures err { OnErr result (self.new ≡ self.old) }
     {
-        let image = match image_of(self.images.as_slice(), handle.get()) {
+        let image = match image_of(self.plain.images.as_slice(), handle.get()) {
             Some(image) => *image,
             None => return Err(WorldFault::NotThere),
         };
         let bytes = self.memory.unmap(image.base);
-        drop_from_segment(&mut self.thunks, &bytes);
+        drop_from_segment(&mut self.plain.thunks, &bytes);
         let _ = self.memory.unmap(image.block);
         let guid = Guid::known(Known::LoadedImage);
         let _ = self.database.remove(image.handle, guid);
         drop_records(&mut self.records, &self.database, image.handle, guid);
-        drop_from(&mut self.images, image.handle);
+        drop_from(&mut self.plain.images, image.handle);
         Ok(())
     }
 
@@ -439,21 +451,21 @@ impl SoftPart {
     pub fn next_image(&self) -> u64
         ensures { result ≡ self.now.next_image }
     {
-        self.next_image
+        self.plain.next_image
     }
 
     /// The address of the next block.
     pub fn next_block(&self) -> u64
         ensures { result ≡ self.now.next_block }
     {
-        self.next_block
+        self.plain.next_block
     }
 
     /// The address of an image's entry point.
     pub fn entry_of(&self, handle: u64) -> Option<u64>
         ensures { result ≡ entry_value handle self.now }
     {
-        match image_of(self.images.as_slice(), handle) {
+        match image_of(self.plain.images.as_slice(), handle) {
             Some(image) => Some(image.entry),
             None => None,
         }
@@ -464,26 +476,30 @@ impl SoftPart {
         ensures { result ≡ image_value at self.now }
     {
         match self.memory.image_base(at) {
-            Some(base) => image_with_base(self.images.as_slice(), base),
+            Some(base) => image_with_base(self.plain.images.as_slice(), base),
             None => None,
         }
     }
 
     // ---- thunks
 
-    /// Makes a thunk of the next number, unless all numbers are handed out.
+    /// Makes a thunk of the next number.
+    ///
+    /// # Errors
+    ///
+    /// `Full` if all numbers are handed out, `OutOfMemory` if there is no memory.
     pub fn make_thunk(&mut self, entry: u64) -> Result<u64, WorldFault>
         requires { is_some (image_value entry self.old) ≡ true }
         ensures answer { Gives result (thunk_answer self.old) }
         ensures ok { OnOk result (self.new ≡ thunk_made entry self.old) }
         ensures err { OnErr result (self.new ≡ self.old) }
     {
-        let number = self.next_thunk;
+        let number = self.plain.next_thunk;
         if number >= MOST_THUNKS {
             return Err(WorldFault::Full);
         }
-        self.thunks.push(Thunk { number, entry })?;
-        self.next_thunk = number + 1;
+        self.plain.thunks.push(Thunk { number, entry })?;
+        self.plain.next_thunk = number + 1;
         Ok(thunk_address(number))
     }
 
@@ -491,7 +507,7 @@ impl SoftPart {
     pub fn thunk_at(&self, at: u64) -> Option<u64>
         ensures { result ≡ thunk_value at self.now }
     {
-        match thunk_with(self.thunks.as_slice(), at) {
+        match thunk_with(self.plain.thunks.as_slice(), at) {
             Some(thunk) => Some(thunk.entry),
             None => None,
         }
@@ -499,7 +515,12 @@ impl SoftPart {
 
     // ---- stacks
 
-    /// Maps the stack of a level that has none, and its list of children, and answers the registers.
+    /// Maps the stack of a level that has none, and its list of children, and answers the
+    /// registers.
+    ///
+    /// # Errors
+    ///
+    /// `OutOfMemory` if there is no memory.
     pub fn push_stack(
         &mut self,
         level: u8,
@@ -519,14 +540,13 @@ impl SoftPart {
         Ok(frame(level))
     }
 
-    /// Takes out the stack of a level and its list of children.
+    /// Removes the stack of a level and its list of children.
     pub fn pop_stack(&mut self, level: u8)
         requires from { 0 < level }
         requires to { level ≤ most_levels }
         ensures { self.new ≡ stack_popped level self.old }
     {
-        let _ = self.memory.unmap(stack_base(level));
-        let _ = self.memory.unmap(list_base(level));
+        unmap_level(&mut self.memory, level);
     }
 }
 
@@ -558,7 +578,7 @@ impl GuestMem for SoftPart {
     }
 }
 
-/// Takes the image of a handle out of those that are loaded.
+/// Removes the image of a handle from those that are loaded.
 fn drop_from(images: &mut Vec<LoadedImage>, handle: Handle)
     ensures { images.new.items ≡ without_image handle images.old.items }
 {
@@ -584,14 +604,14 @@ fn image_with_base(images: &[LoadedImage], base: u64) -> Option<Handle>
 }
 
 /// How many addresses a block of so many bytes takes.
-fn taken(size: u64) -> u64
+fn block_room(size: u64) -> u64
     requires { size < 2 ^ 63 }
-    ensures { result ≡ taken_by size }
+    ensures { result ≡ block_room_of size }
 {
     (size.div_ceil(16) * 16).max(16)
 }
 
-/// The first address for an image at or behind another.
+/// The first address for an image that is not below another address.
 fn next_step(at: u64) -> u64
     requires { at ≤ last_image }
     ensures { result ≡ first_step at }

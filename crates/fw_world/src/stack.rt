@@ -1,17 +1,17 @@
 //! What a driver call finds on its stack, and the list of children that a Stop is given.
 ghost use Rattle.std.specs.Prelude.{◌≡◌, ◌++◌, IfOk, OnErr, OnOk, Ok, flat_map, replicate};
 ghost use Rattle.byteorder.specs.Endian.{little_bytes};
-ghost use Rattle.guest_memory.specs.GuestMemory.{map_answer};
+ghost use Rattle.guest_memory.specs.GuestMemory.{map_answer, unmapped};
 ghost use Rattle.world_model.specs.Stacks.{frame as frame_value, list_base as list_base_of, list_mapped, list_segment, stack_base as stack_base_of, stack_bytes as stack_value};
 
 use crate::mapping::map_free;
-use ebc_machine::{Cpu, EXIT};
+use ebc_machine::Cpu;
 use fw_types::OutOfMemory;
+use guest_memory::address_map::{CHILD_LISTS, EXIT, LIST_ROOM, STACK_SIZE, STACKS};
 use guest_memory::{Memory, SegKind};
 use std::alloc::Global;
-use world_model::addresses::{CHILD_LISTS, LIST_ROOM, STACK_SIZE, STACKS};
 
-/// How far the frame stands above the stack's beginning: 144 bytes below its end.
+/// The offset of the frame in the stack: 144 bytes before its end.
 const FRAME_PLACE: u16 = 0xff70;
 
 /// Where the stack of a level lies.
@@ -48,12 +48,16 @@ pub fn frame(level: u8) -> Cpu
     }
 }
 
-/// The stack as a call begins: zeros but for the return address and the arguments.
+/// The stack as a call begins: zeros except for the return address and the arguments.
+///
+/// # Errors
+///
+/// `OutOfMemory` if there is no memory.
 #[tactic(auto, unfolding(world_model::specs::Stacks::stack_bytes))]
 pub fn stack_bytes(alloc: Global, slots: &[u64; 16]) -> Result<Vec<u8>, OutOfMemory>
     ensures { IfOk result (λ bytes. bytes.items ≡ stack_value slots.now) }
 {
-    let mut bytes = Vec::with_capacity(alloc, 0x1_0000)?;
+    let mut bytes = Vec::with_capacity(alloc, STACK_SIZE as usize)?;
     add_zeros(&mut bytes, FRAME_PLACE)?;
     add_number(&mut bytes, EXIT)?;
     add_zeros(&mut bytes, 8)?;
@@ -61,11 +65,11 @@ pub fn stack_bytes(alloc: Global, slots: &[u64; 16]) -> Result<Vec<u8>, OutOfMem
     Ok(bytes)
 }
 
-/// Maps the list of children of a level, where there are any. Nothing refuses it.
+/// Maps the list of children of a level, if there are any. Nothing refuses it.
 ///
 /// # Errors
 ///
-/// `OutOfMemory` where there is no memory; the memory of drivers is then as before.
+/// `OutOfMemory` if there is no memory; the memory of drivers is then as before.
 pub fn map_list(
     alloc: Global,
     memory: &mut Memory,
@@ -84,6 +88,16 @@ pub fn map_list(
     map_free(memory, list_base(level), bytes, SegKind::Table)
 }
 
+/// Unmaps the stack of a level and its list of children, if they are there.
+pub fn unmap_level(memory: &mut Memory, level: u8)
+    ensures { memory.new ≡
+        unmapped (unmapped memory.old (stack_base_of level)) (list_base_of level) }
+{
+    let _ = memory.unmap(stack_base(level));
+    let _ = memory.unmap(list_base(level));
+}
+
+/// Adds so many zeros at the end.
 fn add_zeros(bytes: &mut Vec<u8>, n: u16) -> Result<(), OutOfMemory>
     ensures { OnOk result (bytes.new.items ≡ bytes.old.items ++ replicate n 0) }
 {
@@ -91,6 +105,7 @@ fn add_zeros(bytes: &mut Vec<u8>, n: u16) -> Result<(), OutOfMemory>
     Ok(())
 }
 
+/// Adds the 8 bytes of a number at the end, lowest byte first.
 fn add_number(bytes: &mut Vec<u8>, number: u64) -> Result<(), OutOfMemory>
     ensures { OnOk result (bytes.new.items ≡ bytes.old.items ++ little_bytes 8 number) }
 {
@@ -98,8 +113,10 @@ fn add_number(bytes: &mut Vec<u8>, number: u64) -> Result<(), OutOfMemory>
     Ok(())
 }
 
+/// Adds the 8 bytes of each number at the end.
 fn add_numbers(bytes: &mut Vec<u8>, numbers: &[u64]) -> Result<(), OutOfMemory>
-    ensures { OnOk result (bytes.new.items ≡ bytes.old.items ++ flat_map (little_bytes 8) numbers.now) }
+    ensures { OnOk result (bytes.new.items ≡
+        bytes.old.items ++ flat_map (little_bytes 8) numbers.now) }
 {
     for number in numbers {
         add_number(bytes, *number)?;

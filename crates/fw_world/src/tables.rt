@@ -4,11 +4,11 @@ ghost use Rattle.world_model.specs.Tables.{tables as all_tables};
 
 use crate::image_block::{ImageInfo, binding_bytes, block_bytes};
 use crate::mapping::map_free;
-use fw_types::OutOfMemory;
+use fw_types::{BOOT_SERVICE_DRIVER, OutOfMemory};
+use guest_memory::address_map::{BOOT_TABLE, BUS_BINDING, FIRMWARE_IMAGE, SYSTEM_TABLE};
 use guest_memory::{Memory, SegKind};
 use service_thunks::{boot_table, system_table};
 use std::alloc::Global;
-use world_model::addresses::{BOOT_TABLE, BUS_BINDING, FIRMWARE_IMAGE, SYSTEM_TABLE};
 
 /// The loaded image block of the firmware, which no image loaded and which has no bytes of its own.
 const FIRMWARE: ImageInfo = ImageInfo {
@@ -16,7 +16,7 @@ const FIRMWARE: ImageInfo = ImageInfo {
     device: 0,
     base: 0,
     size: 0,
-    subsystem: 11,
+    subsystem: BOOT_SERVICE_DRIVER,
 };
 
 /// Memory with the tables of the firmware.

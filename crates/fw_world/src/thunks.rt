@@ -4,9 +4,9 @@ ghost use Rattle.std.specs.Prelude.{◌≡◌, false, find, option_copied, IfNon
 ghost use Rattle.world_model.specs.Thunks.{enters as enters_value, is_thunk_at, thunk_address as address_value, without_thunks};
 ghost use Rattle.fw_world.specs.Places.{DoRise, IsPlaceOf};
 
+use guest_memory::address_map::{THUNK_STEP, THUNKS};
 use guest_memory::{MemRefusal, Segment};
 use world_model::Thunk;
-use world_model::addresses::{THUNK_STEP, THUNKS};
 
 /// The address of a thunk, by its number.
 pub fn thunk_address(number: u32) -> u64
@@ -15,7 +15,7 @@ pub fn thunk_address(number: u32) -> u64
     THUNKS + THUNK_STEP * u64::from(number)
 }
 
-/// Where the thunk of an address stands among thunks that rise by number.
+/// The place of the thunk of an address among thunks that rise by number.
 fn place_of(thunks: &[Thunk], at: u64) -> Option<usize>
     requires { DoRise thunks.now }
     ensures found { IfSome result (IsPlaceOf at thunks.now) }
@@ -37,7 +37,7 @@ pub fn thunk_with(thunks: &[Thunk], at: u64) -> Option<&Thunk>
     }
 }
 
-/// Takes out the thunks that enter a segment, where there is one.
+/// Removes the thunks that enter a segment, if there is one.
 pub fn drop_from_segment(thunks: &mut Vec<Thunk>, segment: &Result<Segment, MemRefusal>)
     ensures { thunks.new.items ≡ without_thunks segment.now thunks.old.items }
 {

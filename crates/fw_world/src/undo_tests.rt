@@ -2,53 +2,17 @@
 ghost use Rattle.std.specs.Prelude.{◌≡◌, OnOk};
 ghost use Rattle.world_model.specs.Marks.{stacks};
 
-use crate::tests::{bytes_of, fill_at, put_at, reads, thunk_into};
+use crate::tests::bytes_of;
 use crate::{World, WorldFault};
 use fw_types::{Guid, Handle, Known};
 use guest_memory::{GuestMem, MemRefusal, SegKind};
 use handle_db::DbRefusal;
-use std::process::Abort;
 use std::test::Fail;
 use world_model::laws::stacks_stand;
 
-/// A thunk that is undone gives its number back, and one that is committed does not.
-#[test]
-fn undone_thunks(rt: HostRuntime) -> Result<(), Fail> {
-    let mut world = World::new(rt.alloc())?;
-    let _ = world.add_image(bytes_of(&rt, 0x40, 0)?, 0, 11, 0)?;
-    let outer = world.mark()?;
-    assert_eq!(rt; thunk_into(&mut world, 0x200_0001)?, Some(0x40_0000));
-    let inner = world.mark()?;
-    assert_eq!(rt; thunk_into(&mut world, 0x200_0002)?, Some(0x40_0010));
-    world.rollback(inner)?;
-    assert_eq!(rt;
-        (world.thunk_at(0x40_0000), world.thunk_at(0x40_0010)),
-        (Some(0x200_0001), None)
-    );
-    assert_eq!(rt; thunk_into(&mut world, 0x200_0003)?, Some(0x40_0010));
-    world.commit(outer);
-    assert_eq!(rt; world.thunk_at(0x40_0010), Some(0x200_0003));
-    assert_eq!(rt; thunk_into(&mut world, 0x200_0004)?, Some(0x40_0020));
-    Ok(())
-}
-
-/// Bytes that are put are undone.
-#[test]
-fn undone_bytes(rt: HostRuntime) -> Result<(), Fail> {
-    let mut world = World::new(rt.alloc())?;
-    let _ = allot_bytes(&mut world, bytes_of(&rt, 4, 0x11)?)?;
-    let mark = world.mark()?;
-    assert_eq!(rt; put_at(&mut world, 0x1_0000_0001, &[1, 2])?, true);
-    assert_eq!(rt; fill_at(&mut world, 0x1_0000_0002, 2, 9)?, true);
-    assert!(rt; reads(&world, 0x1_0000_0000, &[0x11, 1, 9, 9]));
-    world.rollback(mark)?;
-    assert!(rt; reads(&world, 0x1_0000_0000, &[0x11; 4]));
-    Ok(())
-}
-
 /// Makes a block of the pool.
 fn allot_bytes(world: &mut World, bytes: Vec<u8>) -> Result<u64, WorldFault>
-    ensures kept { OnOk result (world.new.kept ≡ world.old.kept) }
+    ensures marks { OnOk result (world.new.marks ≡ world.old.marks) }
     ensures stacks { OnOk result (stacks world.new.now.soft ≡ stacks world.old.now.soft) }
 {
     stacks_stand();
@@ -58,7 +22,7 @@ fn allot_bytes(world: &mut World, bytes: Vec<u8>) -> Result<u64, WorldFault>
 
 /// Frees a block of the pool.
 fn free_block(world: &mut World, at: u64) -> Result<(), WorldFault>
-    ensures kept { OnOk result (world.new.kept ≡ world.old.kept) }
+    ensures marks { OnOk result (world.new.marks ≡ world.old.marks) }
     ensures stacks { OnOk result (stacks world.new.now.soft ≡ stacks world.old.now.soft) }
 {
     stacks_stand();
@@ -69,7 +33,7 @@ fn free_block(world: &mut World, at: u64) -> Result<(), WorldFault>
 
 /// Uninstalls PCI I/O from a handle.
 fn uninstall_pci(world: &mut World, handle: Handle) -> Result<(), DbRefusal>
-    ensures kept { OnOk result (world.new.kept ≡ world.old.kept) }
+    ensures marks { OnOk result (world.new.marks ≡ world.old.marks) }
     ensures stacks { OnOk result (stacks world.new.now.soft ≡ stacks world.old.now.soft) }
 {
     world.uninstall(handle, Guid::known(Known::PciIo))
@@ -77,7 +41,7 @@ fn uninstall_pci(world: &mut World, handle: Handle) -> Result<(), DbRefusal>
 
 /// Writes two bytes.
 fn write_two(world: &mut World, at: u64, value: u64) -> Result<(), MemRefusal>
-    ensures kept { OnOk result (world.new.kept ≡ world.old.kept) }
+    ensures marks { OnOk result (world.new.marks ≡ world.old.marks) }
     ensures stacks { OnOk result (stacks world.new.now.soft ≡ stacks world.old.now.soft) }
 {
     stacks_stand();
@@ -117,7 +81,8 @@ fn undone(rt: HostRuntime) -> Result<(), Fail> {
     Ok(())
 }
 
-/// What a mark inside another keeps goes with the outer one. The next address is as it was.
+/// A mark that is committed inside another is undone with the outer one. The next address is then
+/// as it was.
 #[test]
 fn committed(rt: HostRuntime) -> Result<(), Fail> {
     let mut world = World::new(rt.alloc())?;

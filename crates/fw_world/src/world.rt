@@ -5,18 +5,18 @@ ghost use Rattle.handle_db.specs.Database.{Gives as GivesDb, interface_of, is_li
 ghost use Rattle.open_records.specs.OpenRecords.{records_of};
 ghost use Rattle.open_records.specs.Adding.{Gives as GivesRecord, is_full as is_table_full};
 ghost use Rattle.open_records.specs.Verdicts.{judge, may_enter};
-ghost use Rattle.world_model.specs.Records.{all_left, child_left, gone, is_none_or_live, record_entered, records_left, weak_dropped};
-ghost use Rattle.world_model.specs.declared.addresses.TheConstants.{MOST_LEVELS as most_levels, MOST_LISTED as most_listed, MOST_MARKS as most_marks};
+ghost use Rattle.world_model.specs.Records.{all_left, child_left, is_none_or_live, record_entered, records_left, removed_count, weak_dropped};
+ghost use Rattle.fw_types.specs.declared.limits.TheConstants.{MOST_LEVELS as most_levels, MOST_LISTED as most_listed, MOST_MARKS as most_marks};
 ghost use Rattle.world_model.specs.World.{on_hard, on_soft, with_memory, with_tpl};
 ghost use Rattle.world_model.specs.Faults.{Gives};
 ghost use Rattle.world_model.specs.Blocks.{allot_answer, block_added, block_freed, free_answer};
 ghost use Rattle.world_model.specs.Interfaces.{install_answer, interface as interface_value, interface_added, interface_removed, is_lasting, uninstall_answer};
-ghost use Rattle.world_model.specs.Images.{add_answer, drop_answer, entry_of as entry_value, image_added, image_at as image_value, image_dropped};
+ghost use Rattle.world_model.specs.Images.{add_answer, drop_answer, entry_of as entry_value, image_added, image_at as image_value, image_dropped, is_image_full};
 ghost use Rattle.world_model.specs.Thunks.{thunk_answer, thunk_at as thunk_value, thunk_made};
-ghost use Rattle.world_model.specs.Stacks.{frame, has_stack, is_kept_stack, stack_popped, stack_pushed};
-ghost use Rattle.world_model.specs.Units.{set_aside, units_capped, units_returned, units_spent};
+ghost use Rattle.world_model.specs.Stacks.{frame, has_stack, is_marked_stack, stack_popped, stack_pushed};
+ghost use Rattle.world_model.specs.Units.{units_aside, units_capped, units_returned, units_spent};
 ghost use Rattle.world_model.specs.Events.{command_begun, event_begun, event_ended, events_taken, next_serial};
-ghost use Rattle.world_model.specs.Marks.{committed, depth, kept_stacks, marked, rolled_back, stacks};
+ghost use Rattle.world_model.specs.Marks.{committed, depth, marked_stacks, marked, rolled_back, stacks};
 ghost use Rattle.world_model.specs.Kept.{IsKept};
 ghost use Rattle.world_model.specs.Opening.{opening};
 ghost use Rattle.fw_world.specs.Answers.{AsBefore, AsBeforeFull, AsBeforeRefusal};
@@ -33,10 +33,11 @@ use std::alloc::Global;
 use std::marker::Model;
 use world_model::WorldFault;
 
-/// The one state of the firmware: a soft part, which a mark keeps and a rollback puts back, and beside
-/// it the units that may still be spent and the events of the command, which no rollback touches.
+/// The one state of the firmware: a soft part, which a mark keeps and a rollback puts back, and
+/// beside it the units that may still be spent and the events of the command, which no rollback
+/// touches.
 ///
-/// After want of memory nothing is promised of a world but that it can be dropped.
+/// After `OutOfMemory` nothing is promised of a world except that it can be dropped.
 #[derive(Drop)]
 pub struct World {
     alloc: Global,
@@ -48,29 +49,29 @@ pub struct World {
 
 impl Model for World {
     ghost use Rattle.std.specs.Prelude.{◌≡◌, reverse, true};
-    ghost use Rattle.world_model.specs.World.{Held};
+    ghost use Rattle.world_model.specs.World.{WorldView};
     ghost use Rattle.world_model.specs.Events.{are_numbered};
 
-    ghost Value = { Held };
+    ghost Value = { WorldView };
 
     ghost view = { λ inside. record {
       now = record {
         soft = inside.soft;
         hard = record { units = inside.units; events = inside.events.items };
       };
-      kept = reverse inside.marks.items;
+      marks = reverse inside.marks.items;
     } };
 
     ghost invariant = { λ inside. are_numbered 1 inside.events.items ≡ true };
 }
 
 impl World {
-    /// The opening state: handle 1 is the firmware with its loaded image, handle 2 the PCI bus driver
-    /// with its binding, and the firmware's tables are mapped. No command has begun.
+    /// The opening state: handle 1 is the firmware with its loaded image, handle 2 the PCI bus
+    /// driver with its binding, and the firmware's tables are mapped. No command has begun.
     ///
     /// # Errors
     ///
-    /// `OutOfMemory` where there is no memory.
+    /// `OutOfMemory` if there is no memory.
     pub fn new(alloc: Global) -> Result<World, OutOfMemory>
         ensures { IfOk result (λ world. world ≡ opening) }
     {
@@ -88,12 +89,13 @@ impl World {
         self.alloc
     }
 
-    /// What holds of every world: no two segments meet and each lies where its kind may, the firmware's
-    /// tables are there with their bytes, the database is sound with the interfaces of the firmware and
-    /// of the bus driver, each image has its segment, its loaded image block and its interface, the open
-    /// records are sound and name interfaces and handles that are there, each thunk enters an image and no
-    /// two have one number, a stack has its list of children beside it, and the next addresses and numbers
-    /// are within their ranges.
+    /// What holds of every world. No two segments meet, each lies in the region of its kind, the
+    /// firmware's tables are there with their bytes, and a list of children is there only beside a
+    /// stack of its level. Each image has its segment, its loaded image block and its interface.
+    /// The database is sound and has the interfaces of the firmware and of the bus driver. Each
+    /// thunk enters an image, and no two have one number. The open records are sound and name
+    /// interfaces and handles that are there. The next addresses and the next number are within
+    /// their ranges.
     pub fn is_kept(&self)
         ensures { IsKept self.now.now.soft }
     {
@@ -102,7 +104,7 @@ impl World {
 
     // ---- the task priority level
 
-    /// The task priority level (UEFI 2.8, 'Event, Timer, and Task Priority Services').
+    /// The task priority level (UEFI 2.8, 7.1: Event, Timer, and Task Priority Services).
     pub fn tpl(&self) -> u8
         ensures { result ≡ self.now.now.soft.tpl }
     {
@@ -113,10 +115,10 @@ impl World {
     ///
     /// # Errors
     ///
-    /// `OutOfMemory` where there is no memory.
+    /// `OutOfMemory` if there is no memory.
     pub fn set_tpl(&mut self, tpl: u8) -> Result<(), OutOfMemory>
         ensures now { OnOk result (self.new.now ≡ on_soft (with_tpl tpl) self.old.now) }
-        ensures kept { OnOk result (self.new.kept ≡ self.old.kept) }
+        ensures marks { OnOk result (self.new.marks ≡ self.old.marks) }
     {
         self.soft.set_tpl(tpl);
         Ok(())
@@ -124,34 +126,36 @@ impl World {
 
     // ---- blocks of the pool and of the firmware
 
-    /// Makes a block of these bytes at the next address, and answers its address. `kind` is `Pool` or
-    /// `Firmware`. The block takes its size rounded up to 16 bytes of the addresses, and at least 16.
+    /// Makes a block of these bytes at the next address, and answers its address. `kind` is `Pool`
+    /// or `Firmware`. The block takes its size rounded up to 16 bytes of the addresses, and at
+    /// least 16.
     ///
     /// # Errors
     ///
-    /// `Full` where all blocks would have more than 67,108,864 bytes or be more than 65,536, or the
-    /// block would pass 2^62; `OutOfMemory` where there is no memory.
+    /// `Full` if all blocks would have more than 67,108,864 bytes or be more than 65,536, or the
+    /// block would pass 2^62; `OutOfMemory` if there is no memory.
     pub fn allot(&mut self, bytes: Vec<u8>, kind: SegKind) -> Result<u64, WorldFault>
         requires { is_block kind ≡ true }
         ensures answer { Gives result (allot_answer (length bytes.items) self.old.now.soft) }
-        ensures now { OnOk result (self.new.now ≡ on_soft (block_added bytes.items kind) self.old.now) }
-        ensures kept { OnOk result (self.new.kept ≡ self.old.kept) }
+        ensures now { OnOk result (self.new.now ≡
+            on_soft (block_added bytes.items kind) self.old.now) }
+        ensures marks { OnOk result (self.new.marks ≡ self.old.marks) }
         ensures refused { AsBefore result self.old self.new }
     {
         self.soft.allot(bytes, kind)
     }
 
-    /// Takes out the block of the kind that begins at an address. `kind` is `Pool` or `Firmware`.
+    /// Removes the block of the kind that begins at an address. `kind` is `Pool` or `Firmware`.
     ///
     /// # Errors
     ///
-    /// `NotThere` where no segment of that kind begins there, or a loaded image block does;
-    /// `OutOfMemory` where there is no memory.
+    /// `NotThere` if no segment of that kind begins there, or a loaded image block does;
+    /// `OutOfMemory` if there is no memory.
     pub fn free(&mut self, at: u64, kind: SegKind) -> Result<(), WorldFault>
         requires { is_block kind ≡ true }
         ensures answer { Gives result (free_answer at kind self.old.now.soft) }
         ensures now { OnOk result (self.new.now ≡ on_soft (block_freed at) self.old.now) }
-        ensures kept { OnOk result (self.new.kept ≡ self.old.kept) }
+        ensures marks { OnOk result (self.new.marks ≡ self.old.marks) }
         ensures refused { AsBefore result self.old self.new }
     {
         self.soft.free(at, kind)
@@ -159,16 +163,16 @@ impl World {
 
     // ---- ranges of bytes
 
-    /// Whether `n` bytes from an address on can be read: one segment has them all, whatever its kind.
-    /// No bytes always can. Takes no memory.
+    /// Whether `n` bytes from an address on can be read: one segment has them all, whatever its
+    /// kind. No bytes always can. Takes no memory.
     pub fn can_read(&self, at: u64, n: u64) -> bool
         ensures { result ≡ is_readable self.now.now.soft.memory at n }
     {
         self.soft.can_read(at, n)
     }
 
-    /// Whether `n` bytes from an address on can be written: one segment has them all, and drivers may
-    /// write it. No bytes always can. Takes no memory.
+    /// Whether `n` bytes from an address on can be written: one segment has them all, and drivers
+    /// may write it. No bytes always can. Takes no memory.
     pub fn can_write(&self, at: u64, n: u64) -> bool
         ensures { result ≡ is_writable_range self.now.now.soft.memory at n }
     {
@@ -188,25 +192,29 @@ impl World {
     ///
     /// # Errors
     ///
-    /// `OutOfMemory` where there is no memory.
+    /// `OutOfMemory` if there is no memory.
     pub fn put(&mut self, at: u64, bytes: &[u8]) -> Result<(), OutOfMemory>
         requires { is_writable_range self.old.now.soft.memory at (length bytes.now) ≡ true }
-        ensures now { OnOk result (self.new.now ≡ on_soft (with_memory (put_bytes self.old.now.soft.memory at bytes.now)) self.old.now) }
-        ensures kept { OnOk result (self.new.kept ≡ self.old.kept) }
+        ensures now { OnOk result (self.new.now ≡
+            on_soft (with_memory (put_bytes self.old.now.soft.memory at bytes.now)) self.old.now) }
+        ensures marks { OnOk result (self.new.marks ≡ self.old.marks) }
     {
         self.soft.put(at, bytes);
         Ok(())
     }
 
-    /// Puts a byte in place of each of the `n` from an address on, which can be written (`can_write`).
+    /// Puts a byte in place of each of the `n` from an address on, which can be written
+    /// (`can_write`).
     ///
     /// # Errors
     ///
-    /// `OutOfMemory` where there is no memory.
+    /// `OutOfMemory` if there is no memory.
     pub fn fill(&mut self, at: u64, n: u64, byte: u8) -> Result<(), OutOfMemory>
         requires { is_writable_range self.old.now.soft.memory at n ≡ true }
-        ensures now { OnOk result (self.new.now ≡ on_soft (with_memory (put_bytes self.old.now.soft.memory at (replicate n byte))) self.old.now) }
-        ensures kept { OnOk result (self.new.kept ≡ self.old.kept) }
+        ensures now { OnOk result (self.new.now ≡
+            on_soft (with_memory (put_bytes self.old.now.soft.memory at (replicate n byte)))
+            self.old.now) }
+        ensures marks { OnOk result (self.new.marks ≡ self.old.marks) }
     {
         self.soft.fill(at, n, byte);
         Ok(())
@@ -221,22 +229,22 @@ impl World {
         self.soft.db()
     }
 
-    /// The open records: which agent has which interface open, for which controller and how (UEFI 2.8,
-    /// 7.3: OpenProtocol). Each names an interface and handles that are there.
+    /// The open records: which agent has which interface open, for which controller and how (UEFI
+    /// 2.8, 7.3: OpenProtocol). Each names an interface and handles that are there.
     pub fn entries(&self) -> &Records
         ensures { result.now ≡ self.now.now.soft.records }
     {
         self.soft.entries()
     }
 
-    /// Installs an interface of a protocol on a handle, or on a new one where none is named, and
-    /// answers the handle (UEFI 2.8, 'EFI_BOOT_SERVICES.InstallProtocolInterface()'). `owner` is the
-    /// image that installs it.
+    /// Installs an interface of a protocol on a handle, or on a new one if none is named, and
+    /// answers the handle (UEFI 2.8, 7.3: InstallProtocolInterface). `owner` is the image that
+    /// installs it.
     ///
     /// # Errors
     ///
-    /// In this order: `BadHandle` where the handle that is named is not live; `Already` where it has the
-    /// protocol; `Full` where a limit of the database is met; `OutOfMemory` where there is no memory.
+    /// In this order: `BadHandle` if the handle that is named is not live; `Already` if it has the
+    /// protocol; `Full` if a limit of the database is met; `OutOfMemory` if there is no memory.
     pub fn install(
         &mut self,
         handle: Option<Handle>,
@@ -245,27 +253,29 @@ impl World {
         owner: Handle,
     ) -> Result<Handle, DbRefusal>
         ensures answer { GivesDb result (install_answer handle guid self.old.now.soft) }
-        ensures now { OnOk result (self.new.now ≡ on_soft (interface_added handle (interface_value guid interface owner)) self.old.now) }
-        ensures kept { OnOk result (self.new.kept ≡ self.old.kept) }
+        ensures now { OnOk result (self.new.now ≡
+            on_soft (interface_added handle (interface_value guid interface owner)) self.old.now) }
+        ensures marks { OnOk result (self.new.marks ≡ self.old.marks) }
         ensures refused { AsBeforeRefusal result self.old self.new }
     {
         self.soft.install(handle, guid, interface, owner)
     }
 
-    /// Uninstalls a handle's interface of a protocol with its open records. A handle without interfaces is
-    /// no longer live, and the records that name it go
-    /// (UEFI 2.8, 'EFI_BOOT_SERVICES.UninstallProtocolInterface()'). Neither the loaded image protocol of
-    /// the firmware or of an image that is loaded is uninstalled so, nor the bus driver's binding.
+    /// Uninstalls a handle's interface of a protocol with its open records. A handle without
+    /// interfaces is no longer live, and the records that name it go (UEFI 2.8, 7.3:
+    /// UninstallProtocolInterface). Neither the loaded image protocol of the firmware or of an
+    /// image that is loaded is uninstalled so, nor the bus driver's binding.
     ///
     /// # Errors
     ///
-    /// `BadHandle` where the handle is not live; `NotThere` where it does not have the protocol;
-    /// `OutOfMemory` where there is no memory.
+    /// `BadHandle` if the handle is not live; `NotThere` if it does not have the protocol;
+    /// `OutOfMemory` if there is no memory.
     pub fn uninstall(&mut self, handle: Handle, guid: Guid) -> Result<(), DbRefusal>
         requires { is_lasting handle guid self.old.now.soft ≡ false }
         ensures answer { GivesDb result (uninstall_answer handle guid self.old.now.soft) }
-        ensures now { OnOk result (self.new.now ≡ on_soft (interface_removed handle guid) self.old.now) }
-        ensures kept { OnOk result (self.new.kept ≡ self.old.kept) }
+        ensures now { OnOk result (self.new.now ≡
+            on_soft (interface_removed handle guid) self.old.now) }
+        ensures marks { OnOk result (self.new.marks ≡ self.old.marks) }
         ensures refused { AsBeforeRefusal result self.old self.new }
     {
         self.soft.uninstall(handle, guid)
@@ -273,14 +283,15 @@ impl World {
 
     // ---- open records
 
-    /// Enters an open of an interface (UEFI 2.8, 7.3: OpenProtocol): a record behind those of the
-    /// interface, or one more in the count of the record with the same agent, controller and attribute.
-    /// The interface is there (`Db::interface`), the agent is live, and so is the controller, or it is 0
-    /// where the open is for none. `Records::judged` says `Add` or `Count` of it.
+    /// Enters an open of an interface (UEFI 2.8, 7.3: OpenProtocol): a record after those of the
+    /// interface, or one more in the count of the record with the same agent, controller and
+    /// attribute. The interface is there (`Db::interface`), the agent is live, and so is the
+    /// controller, or it is 0 if the open is for none. `Records::judged` says `Add` or `Count` of
+    /// it.
     ///
     /// # Errors
     ///
-    /// `Full` where there is no such record and there are 65,536 records; `OutOfMemory` where there is no
+    /// `Full` if there is no such record and there are 65,536 records; `OutOfMemory` if there is no
     /// memory.
     pub fn enter(
         &mut self,
@@ -293,21 +304,24 @@ impl World {
         requires there { is_some (interface_of handle guid self.old.now.soft.database) ≡ true }
         requires agent { is_live agent self.old.now.soft.database ≡ true }
         requires controller { is_none_or_live controller self.old.now.soft.database ≡ true }
-        requires verdict { may_enter (judge (records_of self.old.now.soft.records.held handle guid) agent controller attr) ≡ true }
-        ensures answer { GivesRecord result (is_table_full handle guid agent controller attr self.old.now.soft.records) }
-        ensures now { OnOk result (self.new.now ≡ on_soft (record_entered handle guid agent controller attr) self.old.now) }
-        ensures kept { OnOk result (self.new.kept ≡ self.old.kept) }
+        requires verdict { may_enter (judge
+            (records_of self.old.now.soft.records.entries handle guid) agent controller attr) ≡ true }
+        ensures answer { GivesRecord result
+            (is_table_full handle guid agent controller attr self.old.now.soft.records) }
+        ensures now { OnOk result (self.new.now ≡
+            on_soft (record_entered handle guid agent controller attr) self.old.now) }
+        ensures marks { OnOk result (self.new.marks ≡ self.old.marks) }
         ensures refused { AsBeforeFull result self.old self.new }
     {
         self.soft.enter(handle, guid, agent, controller, attr)
     }
 
-    /// Removes an agent's records for a controller, which may be 0, on an interface, and answers how many
-    /// they were (UEFI 2.8, 7.3: CloseProtocol).
+    /// Removes an agent's records for a controller, which may be 0, on an interface, and answers
+    /// how many they were (UEFI 2.8, 7.3: CloseProtocol).
     ///
     /// # Errors
     ///
-    /// `OutOfMemory` where there is no memory.
+    /// `OutOfMemory` if there is no memory.
     pub fn leave(
         &mut self,
         handle: Handle,
@@ -315,9 +329,11 @@ impl World {
         agent: u64,
         controller: u64,
     ) -> Result<u32, OutOfMemory>
-        ensures number { IfOk result (λ number. number ≡ gone self.old.now.soft self.new.now.soft) }
-        ensures now { OnOk result (self.new.now ≡ on_soft (records_left handle guid agent controller) self.old.now) }
-        ensures kept { OnOk result (self.new.kept ≡ self.old.kept) }
+        ensures number { IfOk result (λ number. number ≡
+            removed_count self.old.now.soft self.new.now.soft) }
+        ensures now { OnOk result (self.new.now ≡
+            on_soft (records_left handle guid agent controller) self.old.now) }
+        ensures marks { OnOk result (self.new.marks ≡ self.old.marks) }
     {
         Ok(self.soft.leave(handle, guid, agent, controller))
     }
@@ -326,60 +342,65 @@ impl World {
     ///
     /// # Errors
     ///
-    /// `OutOfMemory` where there is no memory.
+    /// `OutOfMemory` if there is no memory.
     pub fn leave_all(&mut self, handle: Handle, agent: u64) -> Result<u32, OutOfMemory>
-        ensures number { IfOk result (λ number. number ≡ gone self.old.now.soft self.new.now.soft) }
+        ensures number { IfOk result (λ number. number ≡
+            removed_count self.old.now.soft self.new.now.soft) }
         ensures now { OnOk result (self.new.now ≡ on_soft (all_left handle agent) self.old.now) }
-        ensures kept { OnOk result (self.new.kept ≡ self.old.kept) }
+        ensures marks { OnOk result (self.new.marks ≡ self.old.marks) }
     {
         Ok(self.soft.leave_all(handle, agent))
     }
 
-    /// Removes an agent's BY_CHILD_CONTROLLER records for a child on all interfaces of a handle, and
-    /// answers how many they were.
+    /// Removes an agent's BY_CHILD_CONTROLLER records for a child on all interfaces of a handle,
+    /// and answers how many they were.
     ///
     /// # Errors
     ///
-    /// `OutOfMemory` where there is no memory.
+    /// `OutOfMemory` if there is no memory.
     pub fn leave_child(
         &mut self,
         handle: Handle,
         agent: u64,
         child: Handle,
     ) -> Result<u32, OutOfMemory>
-        ensures number { IfOk result (λ number. number ≡ gone self.old.now.soft self.new.now.soft) }
-        ensures now { OnOk result (self.new.now ≡ on_soft (child_left handle agent child) self.old.now) }
-        ensures kept { OnOk result (self.new.kept ≡ self.old.kept) }
+        ensures number { IfOk result (λ number. number ≡
+            removed_count self.old.now.soft self.new.now.soft) }
+        ensures now { OnOk result (self.new.now ≡
+            on_soft (child_left handle agent child) self.old.now) }
+        ensures marks { OnOk result (self.new.marks ≡ self.old.marks) }
     {
         Ok(self.soft.leave_child(handle, agent, child))
     }
 
-    /// Removes the records BY_HANDLE_PROTOCOL, GET_PROTOCOL and TEST_PROTOCOL of an interface, and answers
-    /// how many they were.
+    /// Removes the records BY_HANDLE_PROTOCOL, GET_PROTOCOL and TEST_PROTOCOL of an interface, and
+    /// answers how many they were.
     ///
     /// # Errors
     ///
-    /// `OutOfMemory` where there is no memory.
+    /// `OutOfMemory` if there is no memory.
     pub fn drop_weak(&mut self, handle: Handle, guid: Guid) -> Result<u32, OutOfMemory>
-        ensures number { IfOk result (λ number. number ≡ gone self.old.now.soft self.new.now.soft) }
+        ensures number { IfOk result (λ number. number ≡
+            removed_count self.old.now.soft self.new.now.soft) }
         ensures now { OnOk result (self.new.now ≡ on_soft (weak_dropped handle guid) self.old.now) }
-        ensures kept { OnOk result (self.new.kept ≡ self.old.kept) }
+        ensures marks { OnOk result (self.new.marks ≡ self.old.marks) }
     {
         Ok(self.soft.drop_weak(handle, guid))
     }
 
     // ---- images
 
-    /// Maps an image's bytes at the next image address, makes its loaded image block, installs that on a
-    /// new handle, and answers the handle (UEFI 2.8, 'EFI Loaded Image Protocol'). `entry` is where its
-    /// entry point lies in the bytes, `subsystem` that of its file, 11 for a driver of boot services and
-    /// 12 for a runtime driver, and `device` the handle of the device that it comes from, or 0.
+    /// Maps an image's bytes at the next image address, makes its loaded image block, installs that
+    /// on a new handle, and answers the handle (UEFI 2.8, 9.1: EFI Loaded Image Protocol). `entry`
+    /// is the offset of its entry point in the bytes, `subsystem` that of its file, 11 for a boot
+    /// service driver and 12 for a runtime driver, and `device` the handle of the device that it
+    /// comes from, or 0.
     ///
     /// # Errors
     ///
-    /// `Full` where 4,096 handles are live or the next handle number is 2^62, where all images would have
-    /// more than 67,108,864 bytes or this one would pass 0x80000000, or where a limit on blocks is met;
-    /// `OutOfMemory` where there is no memory.
+    /// `Full` if 4,096 handles are live or the next handle number is 2^62, if all images would have
+    /// more than 67,108,864 bytes or this one would pass 0x80000000, or if a limit on blocks is
+    /// met; `OutOfMemory` if there is no memory.
     pub fn add_image(
         &mut self,
         bytes: Vec<u8>,
@@ -389,26 +410,35 @@ impl World {
     ) -> Result<Handle, WorldFault>
         requires { entry < length bytes.items }
         ensures answer { Gives result (add_answer (length bytes.items) self.old.now.soft) }
-        ensures now { OnOk result (self.new.now ≡ on_soft (image_added bytes.items entry subsystem device) self.old.now) }
-        ensures kept { OnOk result (self.new.kept ≡ self.old.kept) }
+        ensures now { OnOk result (self.new.now ≡
+            on_soft (image_added bytes.items entry subsystem device) self.old.now) }
+        ensures marks { OnOk result (self.new.marks ≡ self.old.marks) }
         ensures refused { AsBefore result self.old self.new }
     {
         self.soft.add_image(bytes, entry, subsystem, device)
     }
 
-    /// Uninstalls the loaded image interface of an image that `add_image` added, as `uninstall` does, and
-    /// takes out its bytes, its loaded image block, and the thunks that enter its bytes.
+    /// Uninstalls the loaded image interface of an image that `add_image` added, as `uninstall`
+    /// does, and removes its bytes, its loaded image block, and the thunks that enter its bytes.
     ///
     /// # Errors
     ///
-    /// `NotThere` where the handle is no such image's; `OutOfMemory` where there is no memory.
+    /// `NotThere` if the handle is no such image's; `OutOfMemory` if there is no memory.
     pub fn drop_image(&mut self, image: Handle) -> Result<(), WorldFault>
         ensures answer { Gives result (drop_answer image self.old.now.soft) }
         ensures now { OnOk result (self.new.now ≡ on_soft (image_dropped image) self.old.now) }
-        ensures kept { OnOk result (self.new.kept ≡ self.old.kept) }
+        ensures marks { OnOk result (self.new.marks ≡ self.old.marks) }
         ensures refused { AsBefore result self.old self.new }
     {
         self.soft.drop_image(image)
+    }
+
+    /// Whether one more image of `size` bytes passes a limit: the errors `Full` of `add_image`.
+    /// Takes no memory.
+    pub fn is_image_full(&self, size: u64) -> bool
+        ensures { result ≡ is_image_full size self.now.now.soft }
+    {
+        self.soft.is_image_full(size)
     }
 
     /// The address at which the next image would be mapped. Takes no memory.
@@ -425,15 +455,15 @@ impl World {
         self.soft.next_block()
     }
 
-    /// The image whose bytes an address lies in, of those that `add_image` added; `None` exactly where it
-    /// lies in none. Takes no memory.
+    /// The image whose bytes an address lies in, of those that `add_image` added; `None` exactly if
+    /// it lies in none. Takes no memory.
     pub fn image_at(&self, at: u64) -> Option<Handle>
         ensures { result ≡ image_value at self.now.now.soft }
     {
         self.soft.image_at(at)
     }
 
-    /// The address of an image's entry point; `None` exactly where the number is no handle of an image
+    /// The address of an image's entry point; `None` exactly if the number is no handle of an image
     /// that `add_image` added. Takes no memory.
     pub fn entry_of(&self, handle: u64) -> Option<u64>
         ensures { result ≡ entry_value handle self.now.now.soft }
@@ -443,23 +473,23 @@ impl World {
 
     // ---- thunks
 
-    /// Makes a thunk, by which native code calls the EBC code at `entry`, and answers its address (UEFI
-    /// 2.8, 'EFI_EBC_PROTOCOL.CreateThunk()'). The entry lies in the bytes of an image.
+    /// Makes a thunk, by which native code calls the EBC code at `entry`, and answers its address
+    /// (UEFI 2.8, 22.11: EFI_EBC_PROTOCOL.CreateThunk). The entry lies in the bytes of an image.
     ///
     /// # Errors
     ///
-    /// `Full` where 65,536 numbers of thunks were handed out; `OutOfMemory` where there is no memory.
+    /// `Full` if 65,536 numbers of thunks were handed out; `OutOfMemory` if there is no memory.
     pub fn make_thunk(&mut self, entry: u64) -> Result<u64, WorldFault>
         requires { is_some (image_value entry self.old.now.soft) ≡ true }
         ensures answer { Gives result (thunk_answer self.old.now.soft) }
         ensures now { OnOk result (self.new.now ≡ on_soft (thunk_made entry) self.old.now) }
-        ensures kept { OnOk result (self.new.kept ≡ self.old.kept) }
+        ensures marks { OnOk result (self.new.marks ≡ self.old.marks) }
         ensures refused { AsBefore result self.old self.new }
     {
         self.soft.make_thunk(entry)
     }
 
-    /// Where the live thunk of an address enters EBC code; `None` exactly where the address is no live
+    /// Where the live thunk of an address enters EBC code; `None` exactly if the address is no live
     /// thunk's. Takes no memory.
     pub fn thunk_at(&self, at: u64) -> Option<u64>
         ensures { result ≡ thunk_value at self.now.now.soft }
@@ -469,13 +499,13 @@ impl World {
 
     // ---- stacks
 
-    /// Maps the stack of a level, from 1 to 32, with a frame of these arguments at its end, and the list
-    /// of child handles where there are any, at most 16,384. Answers the registers as the call begins:
-    /// R0 is at the frame, and all else is 0. The level has no stack yet.
+    /// Maps the stack of a level, from 1 to 32, with a frame of these arguments at its end, and the
+    /// list of child handles if there are any, at most 16,384. Answers the registers as the call
+    /// begins: R0 is at the frame, and all else is 0. The level has no stack yet.
     ///
     /// # Errors
     ///
-    /// `OutOfMemory` where there is no memory.
+    /// `OutOfMemory` if there is no memory.
     pub fn push_stack(
         &mut self,
         level: u8,
@@ -487,25 +517,26 @@ impl World {
         requires none { has_stack level self.old.now.soft.memory ≡ false }
         requires few { length list.now ≤ most_listed }
         ensures frame { IfOk result (λ cpu. cpu ≡ frame level) }
-        ensures now { OnOk result (self.new.now ≡ on_soft (stack_pushed level slots.now list.now) self.old.now) }
-        ensures kept { OnOk result (self.new.kept ≡ self.old.kept) }
+        ensures now { OnOk result (self.new.now ≡
+            on_soft (stack_pushed level slots.now list.now) self.old.now) }
+        ensures marks { OnOk result (self.new.marks ≡ self.old.marks) }
     {
         self.soft.push_stack(level, slots, list)
     }
 
-    /// Takes out the stack of a level and its list of child handles. The stack is there, and no mark that
-    /// is open is newer than it.
+    /// Takes out the stack of a level and its list of child handles. The stack is there, and no
+    /// mark that is open is newer than it.
     ///
     /// # Errors
     ///
-    /// `OutOfMemory` where there is no memory.
+    /// `OutOfMemory` if there is no memory.
     pub fn pop_stack(&mut self, level: u8) -> Result<(), OutOfMemory>
         requires from { 0 < level }
         requires to { level ≤ most_levels }
         requires there { has_stack level self.old.now.soft.memory ≡ true }
-        requires older { is_kept_stack level self.old.kept ≡ false }
+        requires older { is_marked_stack level self.old.marks ≡ false }
         ensures now { OnOk result (self.new.now ≡ on_soft (stack_popped level) self.old.now) }
-        ensures kept { OnOk result (self.new.kept ≡ self.old.kept) }
+        ensures marks { OnOk result (self.new.marks ≡ self.old.marks) }
     {
         self.soft.pop_stack(level);
         Ok(())
@@ -520,12 +551,13 @@ impl World {
         self.units
     }
 
-    /// Spends units; false exactly where fewer are left, and then nothing is spent.
+    /// Spends units; false exactly if fewer are left, and then nothing is spent.
     #[inline]
     pub fn spend(&mut self, n: u64) -> bool
         ensures enough { result ≡ nat_le n self.old.now.hard.units }
-        ensures now { self.new.now ≡ (if result then on_hard (units_spent n) self.old.now else self.old.now) }
-        ensures kept { self.new.kept ≡ self.old.kept }
+        ensures now { self.new.now ≡
+            (if result then on_hard (units_spent n) self.old.now else self.old.now) }
+        ensures marks { self.new.marks ≡ self.old.marks }
         ensures falls { self.new.now.hard.units ≤ self.old.now.hard.units }
     {
         if n > self.units {
@@ -537,9 +569,9 @@ impl World {
 
     /// Leaves at most so many units, until the cap is given back: the others are set aside in it.
     pub fn cap(&mut self, most: u64) -> Cap
-        ensures aside { result ≡ set_aside most self.old.now.hard }
+        ensures aside { result ≡ units_aside most self.old.now.hard }
         ensures now { self.new.now ≡ on_hard (units_capped most) self.old.now }
-        ensures kept { self.new.kept ≡ self.old.kept }
+        ensures marks { self.new.marks ≡ self.old.marks }
         // So what was set aside fits beside what will be left of the rest.
         ensures whole { self.new.now.hard.units + result ≡ self.old.now.hard.units }
         ensures small { self.old.now.hard.units < 2 ^ 64 }
@@ -550,12 +582,12 @@ impl World {
         Cap { aside }
     }
 
-    /// Gives back the units that a cap has set aside, which fit beside those that are left: so it is for the
-    /// newest cap of a command, since units are only spent while it stands.
+    /// Gives back the units that a cap has set aside, which fit beside those that are left: so it
+    /// is for the newest cap of a command, since units are only spent until it is given back.
     pub fn uncap(&mut self, c: Cap)
         requires { self.old.now.hard.units + c < 2 ^ 64 }
         ensures now { self.new.now ≡ on_hard (units_returned c) self.old.now }
-        ensures kept { self.new.kept ≡ self.old.kept }
+        ensures marks { self.new.marks ≡ self.old.marks }
     {
         self.units += c.aside;
     }
@@ -565,18 +597,18 @@ impl World {
     /// Gives a command its units, and forgets the events of the one before. Takes no memory.
     pub fn begin_command(&mut self, units: u32)
         ensures now { self.new.now ≡ on_hard (command_begun units) self.old.now }
-        ensures kept { self.new.kept ≡ self.old.kept }
+        ensures marks { self.new.marks ≡ self.old.marks }
     {
         self.units = u64::from(units);
         self.events = Vec::new(self.alloc);
     }
 
-    /// Begins an event and answers its serial number, which is one more than there are events. Until it
-    /// ends its result is the value SUCCESS.
+    /// Begins an event and answers its serial number, which is one more than there are events.
+    /// Until it ends its result is the value SUCCESS.
     ///
     /// # Errors
     ///
-    /// `OutOfMemory` where there is no memory.
+    /// `OutOfMemory` if there is no memory.
     pub fn begin_event(
         &mut self,
         parent: u64,
@@ -587,8 +619,9 @@ impl World {
     ) -> Result<u64, OutOfMemory>
         ensures serial { IfOk result (λ serial. serial ≡ next_serial self.old.now.hard) }
         ensures last { IfOk result (λ serial. serial ≡ length self.new.now.hard.events) }
-        ensures now { OnOk result (self.new.now ≡ on_hard (event_begun parent kind driver controller extra) self.old.now) }
-        ensures kept { OnOk result (self.new.kept ≡ self.old.kept) }
+        ensures now { OnOk result (self.new.now ≡
+            on_hard (event_begun parent kind driver controller extra) self.old.now) }
+        ensures marks { OnOk result (self.new.marks ≡ self.old.marks) }
     {
         let serial = self.events.len() as u64 + 1;
         self.events.push(Event {
@@ -608,7 +641,7 @@ impl World {
         requires from { 0 < serial }
         requires to { serial ≤ length self.old.now.hard.events }
         ensures now { self.new.now ≡ on_hard (event_ended serial outcome) self.old.now }
-        ensures kept { self.new.kept ≡ self.old.kept }
+        ensures marks { self.new.marks ≡ self.old.marks }
         ensures count { length self.new.now.hard.events ≡ length self.old.now.hard.events }
     {
         let event = &mut self.events[serial as usize - 1];
@@ -619,19 +652,19 @@ impl World {
     pub fn take_events(&mut self) -> Vec<Event>
         ensures events { result.items ≡ self.old.now.hard.events }
         ensures now { self.new.now ≡ on_hard events_taken self.old.now }
-        ensures kept { self.new.kept ≡ self.old.kept }
+        ensures marks { self.new.marks ≡ self.old.marks }
     {
         std::mem::replace(&mut self.events, Vec::new(self.alloc))
     }
 
     // ---- marks
 
-    /// Keeps the soft part as it is now, so that `rollback` can put it back. Fewer than 65,536 marks are
-    /// open.
+    /// Keeps the soft part as it is now, so that `rollback` can put it back. Fewer than 65,536
+    /// marks are open.
     ///
     /// # Errors
     ///
-    /// `OutOfMemory` where there is no memory.
+    /// `OutOfMemory` if there is no memory.
     pub fn mark(&mut self) -> Result<Mark, OutOfMemory>
         requires { depth self.old < most_marks }
         ensures depth { IfOk result (λ mark. mark ≡ depth self.new) }
@@ -644,15 +677,15 @@ impl World {
         })
     }
 
-    /// Puts the soft part back that a mark keeps, and spends the mark. It is the newest that is open, and
-    /// the same levels have stacks as when it was made. The units and the events stay.
+    /// Puts the soft part back that a mark keeps, and spends the mark. It is the newest that is
+    /// open, and the same levels have stacks as when it was made. The units and the events stay.
     ///
     /// # Errors
     ///
-    /// `OutOfMemory` where there is no memory.
+    /// `OutOfMemory` if there is no memory.
     pub fn rollback(&mut self, m: Mark) -> Result<(), OutOfMemory>
         requires newest { m ≡ depth self.old }
-        requires stacks { stacks self.old.now.soft ≡ kept_stacks self.old }
+        requires stacks { stacks self.old.now.soft ≡ marked_stacks self.old }
         ensures { OnOk result (self.new ≡ rolled_back self.old) }
     {
         if let Some(soft) = self.marks.pop() {
@@ -661,7 +694,8 @@ impl World {
         Ok(())
     }
 
-    /// Spends a mark, and leaves the soft part as it is. It is the newest that is open. Takes no memory.
+    /// Spends a mark, and leaves the soft part as it is. It is the newest that is open. Takes no
+    /// memory.
     pub fn commit(&mut self, m: Mark)
         requires newest { m ≡ depth self.old }
         ensures { self.new ≡ committed self.old }

@@ -84,16 +84,6 @@ lie_from-put_bytes from [] at bytes = refl
 lie_from-put_bytes from (segment ∷ segments) at bytes =
     lie_from-put_bytes-more from segment segments at bytes (lie_from-put_bytes (end_of segment) segments at bytes)
 
--- so they still lie apart, once the segment at the place has the bytes
-pub put_bytes_apart : (segments : List Segment) (place at n : ℕ) (bytes : List ℕ) (segment : Segment) → position (λ s. has_bytes s at n) segments ≡ Some place → length bytes ≡ n → segment ≡ get_or segments place segment
-    → lie_from 0 segments ≡ true → lie_from 0 (set segments place (with_bytes segment at bytes)) ≡ true
-put_bytes_apart segments place at n bytes segment found size is lies =
-    ap (lie_from 0) (put_bytes_at segments place at n bytes segment found size is) ∙ lie_from-put_bytes 0 segments at bytes ∙ lies
-
-pub filled_apart : (segments : List Segment) (place at n byte : ℕ) (segment : Segment) → position (λ s. has_bytes s at n) segments ≡ Some place → segment ≡ get_or segments place segment
-    → lie_from 0 segments ≡ true → lie_from 0 (set segments place (with_bytes segment at (replicate n byte))) ≡ true
-filled_apart segments place at n byte segment found is lies = put_bytes_apart segments place at n (replicate n byte) segment found (length-replicate n byte) is lies
-
 -- no bytes change nothing
 with_bytes-none : (segment : Segment) (at : ℕ) → with_bytes segment at [] ≡ segment
 with_bytes-none segment at =
@@ -110,6 +100,13 @@ put_bytes-none-more false segment segments at rest = ap (λ others. segment ∷ 
 pub put_bytes-none : (segments : List Segment) (at : ℕ) → put_bytes segments at [] ≡ segments
 put_bytes-none [] at = refl
 put_bytes-none (segment ∷ segments) at = put_bytes-none-more (has_bytes segment at 0) segment segments at (put_bytes-none segments at)
+
+pub put_bytes-empty : (segments : List Segment) (at : ℕ) (bytes : List ℕ) → length bytes ≡ 0 → put_bytes segments at bytes ≡ segments
+put_bytes-empty segments at [] empty = put_bytes-none segments at
+put_bytes-empty segments at (byte ∷ bytes) empty = absurd (omega (arith, empty))
+
+pub filled-empty : (segments : List Segment) (at n byte : ℕ) → n ≡ 0 → put_bytes segments at (replicate n byte) ≡ segments
+filled-empty segments at n byte empty = put_bytes-empty segments at (replicate n byte) (length-replicate n byte ∙ empty)
 
 -- ---- tests and parts of segments
 
@@ -210,10 +207,8 @@ behind_there (s ∷ front) rest at bytes fixed can =
     let one = behind-more s (front ++ rest) at bytes (has_bytes s at (length bytes)) (not-true (is_writable s.kind) parts.0) can in
     one.1 ∙ ap (λ others. s ∷ others) (behind_there front rest at bytes parts.1 one.0)
 
--- what is put is behind such segments that stand in front
+-- what is put lies after such segments that come first
 pub put_bytes-behind : (front rest : List Segment) (at : ℕ) (bytes : List ℕ) → list_all is_fixed front ≡ true → is_writable_range (front ++ rest) at (length bytes) ≡ true
     → put_bytes (front ++ rest) at bytes ≡ front ++ put_bytes rest at bytes
 put_bytes-behind front rest at [] fixed can = put_bytes-none (front ++ rest) at ∙ ap (λ others. front ++ others) (sym (put_bytes-none rest at))
 put_bytes-behind front rest at (byte ∷ bytes) fixed can = behind_there front rest at (byte ∷ bytes) fixed (holder_writable (front ++ rest) at byte bytes can)
-
--- ---- bytes that are read

@@ -1,7 +1,8 @@
--- The memory that a driver's code sees: a list of segments, sorted by address, no two of which meet.
-use Rattle.std.specs.Prelude.{◌≡◌, ◌<◌, ℕ, ◌+◌, ◌^◌, sum_by, count_by, find, Bool, ◌&&◌, ◌||◌, false, nat_le, nat_lt, nat_eq, List, [], ◌∷◌, length, remove, slice_index_or, Option, Some, None, Result, Ok, Err, if◌then◌else◌}
+-- The memory that a driver sees: a list of segments in order of address, no two of which meet.
+use Rattle.std.specs.Prelude.{◌≡◌, ℕ, ◌+◌, ◌^◌, sum_by, count_by, find, Bool, ◌&&◌, ◌||◌, false, nat_le, nat_lt, nat_eq, List, [], ◌∷◌, length, Option, Some, None, Result, Ok, Err, if◌then◌else◌}
 use Rattle.std.specs.List.{list_any}
 use Rattle.std.specs.Option.{is_some}
+use Rattle.fw_types.specs.declared.limits.TheConstants.{MOST_BYTES, MOST_BLOCKS}
 use Rattle.guest_memory.specs.Segment.{is_writable, is_image, is_block, has_bytes, number_at, bytes_at, with_bytes, with_number, code_at, end_of, meets}
 use Rattle.guest_memory.specs.declared.segment.Segment.{Segment}
 use Rattle.guest_memory.specs.declared.segment.SegKind.{SegKind}
@@ -15,21 +16,21 @@ use Rattle.guest_memory.specs.declared.guest.MemRefusal.TheVariants.{NoSegment, 
 abbrev pub holder : List Segment → ℕ → ℕ → Option Segment
 holder segments at n = find (λ segment. has_bytes segment at n) segments
 
--- the number in n bytes, where one segment has them all
+-- the number in n bytes, if one segment has them all
 abbrev pub number_in : Option Segment → ℕ → ℕ → Option ℕ
 number_in None at n = None
 number_in (Some segment) at n = Some (number_at segment at n)
 
-abbrev pub loaded : List Segment → ℕ → ℕ → Option ℕ
-loaded segments at n = number_in (holder segments at n) at n
+abbrev pub number_of : List Segment → ℕ → ℕ → Option ℕ
+number_of segments at n = number_in (holder segments at n) at n
 
 -- what a write answers, by the segment that has the bytes
-abbrev pub answer_at : Option Segment → Result Unit MemRefusal
-answer_at None = Err NoSegment
-answer_at (Some segment) = if is_writable segment.kind then Ok tt else Err ReadOnly
+abbrev pub answer_in : Option Segment → Result Unit MemRefusal
+answer_in None = Err NoSegment
+answer_in (Some segment) = if is_writable segment.kind then Ok tt else Err ReadOnly
 
 abbrev pub write_answer : List Segment → ℕ → ℕ → Result Unit MemRefusal
-write_answer segments at n = answer_at (holder segments at n)
+write_answer segments at n = answer_in (holder segments at n)
 
 -- the segments with the lowest n bytes of a number in the one that has the bytes, and nothing else changed
 abbrev pub written : List Segment → ℕ → ℕ → ℕ → List Segment
@@ -47,8 +48,8 @@ abbrev pub code_in : Option Segment → ℕ → List ℕ
 code_in None at = []
 code_in (Some segment) at = code_at segment at
 
-abbrev pub fetched : List Segment → ℕ → List ℕ
-fetched segments at = code_in (image_with segments at) at
+abbrev pub image_code : List Segment → ℕ → List ℕ
+image_code segments at = code_in (image_with segments at) at
 
 -- A call gives this answer, unless memory ran out. A write gives neither Overlap nor Full.
 abbrev pub Gives : Result Unit MemRefusal → Result Unit MemRefusal → Type 0
@@ -65,21 +66,22 @@ Gives (Err Full) answer = answer ≡ Err Full
 abbrev pub is_readable : List Segment → ℕ → ℕ → Bool
 is_readable segments at n = nat_eq n 0 || is_some (holder segments at n)
 
--- whether there is a segment that the code may write
+-- whether there is a segment, and a driver may write it
 abbrev pub is_writable_holder : Option Segment → Bool
 is_writable_holder None = false
 is_writable_holder (Some segment) = is_writable segment.kind
 
--- Whether n bytes from an address on can be written: one segment has them all, and is writable. No bytes always can.
+-- Whether n bytes from an address on can be written: one segment has them all, and is writable. No bytes
+-- always can.
 abbrev pub is_writable_range : List Segment → ℕ → ℕ → Bool
 is_writable_range segments at n = nat_eq n 0 || is_writable_holder (holder segments at n)
 
--- the n bytes of a segment from an address on, and none where there is none
+-- the n bytes of a segment from an address on, and none if there is no segment
 abbrev pub bytes_in : Option Segment → ℕ → ℕ → List ℕ
 bytes_in None at n = []
 bytes_in (Some segment) at n = bytes_at segment at n
 
--- the n bytes from an address on, and none where no one segment has them all
+-- the n bytes from an address on, and none if no one segment has them all
 abbrev pub bytes_of : List Segment → ℕ → ℕ → List ℕ
 bytes_of segments at n = bytes_in (holder segments at n) at n
 
@@ -92,7 +94,7 @@ put_bytes (segment ∷ segments) at bytes =
 
 -- ---- mapping
 
--- whether segments lie one behind the other from an address on, and end by 2^63
+-- whether segments lie one after another from an address on, and end by 2^63
 abbrev pub lie_from : ℕ → List Segment → Bool
 lie_from at [] = nat_le at (2 ^ 63)
 lie_from at (segment ∷ segments) = nat_le at segment.base && lie_from (end_of segment) segments
@@ -122,20 +124,14 @@ total_of segments kind =
 abbrev pub block_count : List Segment → ℕ
 block_count segments = count_by (λ segment. is_block segment.kind) segments
 
--- the most bytes of all images, and of all blocks
-abbrev pub most_bytes : ℕ
-most_bytes = 67108864
-
-abbrev pub most_blocks : ℕ
-most_blocks = 65536
-
+-- whether so many more bytes are too many for all blocks together, or one more block is
 abbrev pub is_pool_full : List Segment → ℕ → Bool
 is_pool_full segments size =
-    nat_lt most_bytes (total_of segments Pool + total_of segments Firmware + size) || nat_le most_blocks (block_count segments)
+    nat_lt MOST_BYTES (total_of segments Pool + total_of segments Firmware + size) || nat_le MOST_BLOCKS (block_count segments)
 
--- whether so many more bytes are too many for a kind
+-- whether one more segment of a kind, with so many bytes, passes a limit
 abbrev pub is_full : List Segment → SegKind → ℕ → Bool
-is_full segments Image size = nat_lt most_bytes (total_of segments Image + size)
+is_full segments Image size = nat_lt MOST_BYTES (total_of segments Image + size)
 is_full segments Pool size = is_pool_full segments size
 is_full segments Firmware size = is_pool_full segments size
 is_full segments Stack size = false
@@ -163,13 +159,7 @@ beginning_at (segment ∷ segments) base = if nat_eq segment.base base then Ok s
 abbrev pub begins : SegKind → ℕ → List Segment → Bool
 begins kind base segments = list_any (λ segment. nat_eq segment.base base && is_of kind segment) segments
 
--- the segments without that one
+-- the segments without the one that begins at an address
 abbrev pub unmapped : List Segment → ℕ → List Segment
 unmapped [] base = []
 unmapped (segment ∷ segments) base = if nat_eq segment.base base then segments else segment ∷ unmapped segments base
-
--- the segment at a place is the one that begins at an address
-abbrev pub IsPlaceOf : List Segment → ℕ → ℕ → Type 0
-IsPlaceOf segments base place =
-    (place < length segments) × ((d : Segment) → beginning_at segments base ≡ Ok (slice_index_or segments place d))
-    × (unmapped segments base ≡ remove segments place)

@@ -1,2 +1,4 @@
 pub mod Segment
 pub mod GuestMemory
+pub mod Laws
+pub mod Places

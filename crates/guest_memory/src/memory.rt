@@ -1,25 +1,27 @@
-ghost use Rattle.std.specs.List.{list_any, position};
-ghost use Rattle.std.specs.Prelude.{◌≡◌, ◌^◌, ◌<◌, ◌≤◌, refl, [], List, insert, IsTrue, IsErrOf, OnOk, OnErr, IfOk, IfSome, IfNone, is_ok, Ok, Err, length, option_copied, option_map, ◌++◌, ◌+◌, drop, nat_lt, replicate, if◌then◌else◌};
-ghost use Rattle.guest_memory.specs.Segment.{is_access, has_bytes, meets};
-ghost use Rattle.guest_memory.specs.GuestMemory.{holder, loaded, write_answer, written, is_readable, is_writable_range, bytes_of, put_bytes, image_with, fetched, lie_from, overlaps, total_of, block_count, most_bytes, is_pool_full, is_full, map_answer, mapped, beginning_at, begins, unmapped, IsPlaceOf, Gives};
+ghost use Rattle.std.specs.Prelude.{◌≡◌, refl, [], IsTrue, OnOk, OnErr, IfOk, is_ok, length, option_map, replicate, if◌then◌else◌};
+ghost use Rattle.guest_memory.specs.Segment.{is_access};
+ghost use Rattle.guest_memory.specs.GuestMemory.{write_answer, written, is_readable, is_writable_range, bytes_of, put_bytes, image_with, lie_from, total_of, is_full, map_answer, mapped, beginning_at, begins, unmapped, Gives};
+ghost use Rattle.guest_memory.specs.Places.{IsInOrder};
 ghost use Rattle.guest_memory.specs.declared.segment.Segment.{Segment as SegmentValue};
 
 use crate::guest::{GuestMem, MemRefusal};
+use crate::places::{holder_of, image_of, meets_any, place_from, place_of, place_with};
 use crate::segment::{SegKind, Segment};
+use crate::totals::Totals;
 use fw_types::{OutOfMemory, Rows};
 use std::alloc::Global;
+use std::cell::Cell;
 use std::marker::Model;
-
-/// The most bytes that all images have, and that all blocks have.
-const MOST_BYTES: u64 = 67_108_864;
-
-/// The most blocks.
-const MOST_BLOCKS: usize = 65_536;
 
 /// Segments in order of address, no two of which meet.
 #[derive(Drop)]
 pub struct Memory {
     segments: Vec<Segment>,
+    totals: Totals,
+    /// The place of the segment that was last read or written. It is no part of the value.
+    last_data: Cell<usize>,
+    /// The place of the segment from which code was last fetched. It is no part of the value.
+    last_code: Cell<usize>,
 }
 
 impl Model for Memory {
@@ -30,10 +32,9 @@ impl Model for Memory {
 
     ghost view = { λ memory. memory.segments.items };
 
-    ghost use Rattle.std.specs.Prelude.{IsTrue};
-    ghost use Rattle.guest_memory.specs.GuestMemory.{lie_from};
+    ghost use Rattle.guest_memory.specs.Places.{IsInOrder};
 
-    ghost invariant = { λ memory. IsTrue (lie_from 0 memory.segments.items) };
+    ghost invariant = { λ memory. IsInOrder memory.segments.items memory.totals };
 }
 
 impl Memory {
@@ -41,18 +42,18 @@ impl Memory {
     pub fn new(alloc: Global) -> Memory
         ensures { result ≡ [] }
     {
-        Memory {
-            segments: Vec::new(alloc),
-        }
+        Memory::of(Vec::new(alloc), Totals::NONE)
     }
 
-    /// Puts a segment in its place.
+    /// Puts a segment in its place by address.
     ///
-    /// `Overlap` where it would meet another segment or pass 2^63, counting as one byte where it has
-    /// none. Else `Full` where it is an image and all images would have more than 67,108,864 bytes,
-    /// or it is a block of the pool or of the firmware and all these would have more than
-    /// 67,108,864 bytes or be more than 65,536. Else `OutOfMemory` where there was no memory. After
-    /// each of them the memory is as before.
+    /// # Errors
+    ///
+    /// `Overlap` if the segment would meet another or pass 2^63; a segment of no bytes counts as one
+    /// byte. Else `Full` if it is an image and all images would have more than 67,108,864 bytes, or
+    /// if it is a block of the pool or of the firmware and all blocks would have more than 67,108,864
+    /// bytes or be more than 65,536. Else `OutOfMemory` if memory runs out. After an error the memory
+    /// is as before.
     pub fn map(&mut self, base: u64, bytes: Vec<u8>, kind: SegKind) -> Result<(), MemRefusal>
         ensures answer { Gives result (map_answer self.old (record { base = base; bytes = bytes.items; kind = kind })) }
         ensures ok { OnOk result (self.new ≡ mapped (record { base = base; bytes = bytes.items; kind = kind }) self.old) }
@@ -65,30 +66,35 @@ impl Memory {
             bytes: Rows::of(bytes),
             kind,
         };
-        if overlaps(self.segments.as_slice(), &segment) {
+        let place = place_from(self.segments.as_slice(), base);
+        if !segment.is_in_range() || meets_any(self.segments.as_slice(), place, &segment) {
             return Err(MemRefusal::Overlap);
         }
-        if is_full(
-            self.segments.as_slice(),
-            kind,
-            segment.bytes.as_slice().len() as u64,
-        ) {
+        let size = segment.bytes.as_slice().len() as u64;
+        if self.totals.is_full(kind, size) {
             return Err(MemRefusal::Full);
         }
-        let place = place_of(self.segments.as_slice(), &segment);
         self.segments.insert(place, segment)?;
+        self.totals.add(kind, size);
         Ok(())
     }
 
     /// Takes out the segment that begins at an address. Takes no memory.
     ///
-    /// `NoSegment` where none begins there. The memory is then as before.
+    /// # Errors
+    ///
+    /// `NoSegment` if none begins there. The memory is then as before.
     pub fn unmap(&mut self, base: u64) -> Result<Segment, MemRefusal>
         ensures answer { result ≡ beginning_at self.old base }
         ensures rest { self.new ≡ unmapped self.old base }
     {
-        match index_of(self.segments.as_slice(), base) {
-            Some(place) => Ok(self.segments.remove(place)),
+        match place_of(self.segments.as_slice(), base) {
+            Some(place) => {
+                let segment = self.segments.remove(place);
+                self.totals
+                    .subtract(segment.kind, segment.bytes.as_slice().len() as u64);
+                Ok(segment)
+            }
             None => Err(MemRefusal::NoSegment),
         }
     }
@@ -97,31 +103,33 @@ impl Memory {
     pub fn total(&self, kind: SegKind) -> u64
         ensures { result ≡ total_of self.now kind }
     {
-        total_in(self.segments.as_slice(), kind)
+        self.totals.of(kind)
     }
 
     /// Whether a segment of a kind begins at an address. Takes no memory.
     pub fn begins(&self, kind: SegKind, base: u64) -> bool
         ensures { result ≡ begins kind base self.now }
     {
-        self.segments
-            .iter()
-            .any(|segment| segment.base == base && segment.kind == kind)
+        match place_of(self.segments.as_slice(), base) {
+            Some(place) => self.segments[place].is_of(kind),
+            None => false,
+        }
     }
 
-    /// Whether one more segment of a kind, with so many bytes, would pass a limit: for this `map`
-    /// answers `Full`. Takes no memory.
+    /// Whether one more segment of a kind, with so many bytes, would pass a limit: `map` then answers
+    /// `Full`. Takes no memory.
     pub fn is_full(&self, kind: SegKind, size: u64) -> bool
         ensures { result ≡ is_full self.now kind size }
     {
-        is_full(self.segments.as_slice(), kind, size)
+        self.totals.is_full(kind, size)
     }
 
-    /// Where the image begins that has an address; `None` exactly where none has it. Takes no memory.
+    /// The address at which the image begins that has an address; `None` exactly if no image has it.
+    /// Takes no memory.
     pub fn image_base(&self, at: u64) -> Option<u64>
         ensures { result ≡ option_map (λ (segment : SegmentValue). segment.base) (image_with self.now at) }
     {
-        image_of(self.segments.as_slice(), at).map(|segment| segment.base)
+        image_of(self.segments.as_slice(), &self.last_code, at).map(|segment| segment.base)
     }
 
     /// Whether `n` bytes from an address on can be read: one segment has them all, whatever its
@@ -129,16 +137,21 @@ impl Memory {
     pub fn can_read(&self, at: u64, n: u64) -> bool
         ensures { result ≡ is_readable self.now at n }
     {
-        n == 0 || holder_of(self.segments.as_slice(), at, n).is_some()
+        n == 0 || holder_of(self.segments.as_slice(), &self.last_data, at, n).is_some()
     }
 
-    /// Whether `n` bytes from an address on can be written: one segment has them all, and the code
+    /// Whether `n` bytes from an address on can be written: one segment has them all, and a driver
     /// may write it. No bytes always can. Takes no memory.
     pub fn can_write(&self, at: u64, n: u64) -> bool
         ensures { result ≡ is_writable_range self.now at n }
     {
-        let holder = holder_of(self.segments.as_slice(), at, n);
-        n == 0 || holder.is_some_and(|segment| segment.kind.is_writable())
+        if n == 0 {
+            return true;
+        }
+        match holder_of(self.segments.as_slice(), &self.last_data, at, n) {
+            Some(segment) => segment.kind.is_writable(),
+            None => false,
+        }
     }
 
     /// The `n` bytes from an address on, which can be read (`can_read`). Takes no memory.
@@ -147,33 +160,41 @@ impl Memory {
         ensures bytes { result.now ≡ bytes_of self.now at n }
         ensures size { length result.now ≡ n }
     {
-        match holder_of(self.segments.as_slice(), at, n) {
+        if n == 0 {
+            return &[];
+        }
+        match holder_of(self.segments.as_slice(), &self.last_data, at, n) {
             Some(segment) => segment.bytes(at, n),
             None => &[],
         }
     }
 
-    /// Puts bytes in place of those from an address on, which can be written (`can_write`). Nothing
-    /// else changes. Takes no memory.
-    #[tactic(auto, using(crate::proofs::PutLemmas::put_bytes_at, crate::proofs::PutLemmas::put_bytes_nowhere, crate::proofs::PutLemmas::put_bytes_apart))]
+    /// Writes bytes from an address on, where they can be written (`can_write`). Nothing else
+    /// changes. Takes no memory.
     pub fn put(&mut self, at: u64, bytes: &[u8])
         requires writable { IsTrue (is_writable_range self.old at (length bytes.now)) }
         ensures { self.new ≡ put_bytes self.old at bytes.now }
     {
-        if let Some(place) = place_with(self.segments.as_slice(), at, bytes.len() as u64) {
+        let n = bytes.len() as u64;
+        if n == 0 {
+            return;
+        }
+        if let Some(place) = place_with(self.segments.as_slice(), &self.last_data, at, n) {
             self.segments[place].put_bytes(at, bytes);
         }
     }
 
-    /// Puts a byte in place of each of the `n` from an address on, which can be written
-    /// (`can_write`). Nothing else changes. Takes no memory.
-    #[tactic(auto, using(crate::proofs::PutLemmas::filled_at, crate::proofs::PutLemmas::filled_nowhere, crate::proofs::PutLemmas::filled_apart))]
+    /// Writes a byte `n` times from an address on, where that can be written (`can_write`). Nothing
+    /// else changes. Takes no memory.
     pub fn fill(&mut self, at: u64, n: u64, byte: u8)
         requires writable { IsTrue (is_writable_range self.old at n) }
         ensures { self.new ≡ put_bytes self.old at (replicate n byte) }
     {
+        if n == 0 {
+            return;
+        }
         let alloc = *self.segments.allocator();
-        if let Some(place) = place_with(self.segments.as_slice(), at, n) {
+        if let Some(place) = place_with(self.segments.as_slice(), &self.last_data, at, n) {
             self.segments[place].fill(alloc, at, n, byte);
         }
     }
@@ -182,13 +203,26 @@ impl Memory {
     ///
     /// # Errors
     ///
-    /// `OutOfMemory` where there is no memory for it.
+    /// `OutOfMemory` if memory runs out.
     pub fn copy(&self) -> Result<Memory, OutOfMemory>
         ensures { IfOk result (λ copy. copy ≡ self.now) }
     {
         let alloc = *self.segments.allocator();
         let segments = copy_of(alloc, self.segments.as_slice())?;
-        Ok(Memory { segments })
+        Ok(Memory::of(segments, self.totals))
+    }
+
+    /// A memory of segments in order with their totals, of which none was used yet.
+    fn of(segments: Vec<Segment>, totals: Totals) -> Memory
+        requires { IsInOrder segments.items totals }
+        ensures { result ≡ segments.items }
+    {
+        Memory {
+            segments,
+            totals,
+            last_data: Cell::new(0),
+            last_code: Cell::new(0),
+        }
     }
 }
 
@@ -203,7 +237,7 @@ impl GuestMem for Memory {
 
     #[inline]
     fn read(&self, at: u64, n: u8) -> Option<u64> {
-        match holder_of(self.segments.as_slice(), at, u64::from(n)) {
+        match holder_of(self.segments.as_slice(), &self.last_data, at, u64::from(n)) {
             Some(segment) => Some(segment.number(at, n)),
             None => None,
         }
@@ -211,155 +245,44 @@ impl GuestMem for Memory {
 
     #[inline]
     fn write(&mut self, at: u64, n: u8, value: u64) -> Result<(), MemRefusal> {
-        write_in(&mut self.segments, at, n, value)
+        write_in(&mut self.segments, &self.last_data, at, n, value)
     }
 
     #[inline]
     fn fetch(&self, at: u64, into: &mut [u8; 18]) -> u8 {
-        match image_of(self.segments.as_slice(), at) {
+        match image_of(self.segments.as_slice(), &self.last_code, at) {
             Some(segment) => segment.code(at, into),
             None => 0,
         }
     }
 }
 
-/// The segment that has all the bytes.
+/// Writes the lowest `n` bytes of a number in the segment that has them all.
 #[inline]
-fn holder_of(segments: &[Segment], at: u64, n: u64) -> Option<&Segment>
-    ensures found { option_copied result ≡ holder segments.now at n }
-    ensures has { IfSome result (λ segment. IsTrue (has_bytes segment.now at n)) }
-{
-    segments.iter().find(|segment| segment.has(at, n))
-}
-
-/// Where the segment is that has all the bytes.
-fn place_with(segments: &[Segment], at: u64, n: u64) -> Option<usize>
-    ensures { result ≡ position (λ segment. has_bytes segment at n) segments.now }
-{
-    segments.iter().position(|segment| segment.has(at, n))
-}
-
-fn place_of(segments: &[Segment], segment: &Segment) -> usize
-    ensures within { result ≤ length segments.now }
-    ensures place { insert segments.now result segment.now ≡ mapped segment.now segments.now }
-{
-    for (place, other) in segments.iter().enumerate() {
-        if other.base >= segment.base {
-            return place;
-        }
-    }
-    segments.len()
-}
-
-/// The image that has the address.
-#[inline]
-fn image_of(segments: &[Segment], at: u64) -> Option<&Segment>
-    ensures found { option_copied result ≡ image_with segments.now at }
-    ensures has { IfSome result (λ segment. IsTrue (has_bytes segment.now at 1)) }
-{
-    segments
-        .iter()
-        .find(|segment| segment.kind.is_image() && segment.has(at, 1))
-}
-
-#[inline]
-#[tactic(auto, using(crate::proofs::SegmentLemmas::written_at))]
-fn write_in(segments: &mut Vec<Segment>, at: u64, n: u8, value: u64) -> Result<(), MemRefusal>
-    requires { IsTrue (is_access n) }
+fn write_in(
+    segments: &mut Vec<Segment>,
+    last: &Cell<usize>,
+    at: u64,
+    n: u8,
+    value: u64,
+) -> Result<(), MemRefusal>
+    requires access { IsTrue (is_access n) }
+    requires apart { IsTrue (lie_from 0 segments.old.items) }
     ensures answer { result ≡ write_answer segments.old.items at n }
     ensures bytes { segments.new.items ≡ (if is_ok result
         then written segments.old.items at n value else segments.old.items) }
 {
-    for i in 0..segments.len() {
-        let segment = &mut segments[i];
-        if segment.has(at, u64::from(n)) {
+    match place_with(segments.as_slice(), last, at, u64::from(n)) {
+        Some(place) => {
+            let segment = &mut segments[place];
             if !segment.kind.is_writable() {
                 return Err(MemRefusal::ReadOnly);
             }
             segment.put(at, n, value);
-            return Ok(());
+            Ok(())
         }
+        None => Err(MemRefusal::NoSegment),
     }
-    Err(MemRefusal::NoSegment)
-}
-
-/// Whether a segment would pass 2^63 or meet another.
-fn overlaps(segments: &[Segment], segment: &Segment) -> bool
-    ensures { result ≡ overlaps segments.now segment.now }
-{
-    !segment.is_in_range() || meets_any(segments, segment)
-}
-
-fn meets_any(segments: &[Segment], segment: &Segment) -> bool
-    ensures { result ≡ list_any (λ other. meets segment.now other) segments.now }
-{
-    segments.iter().any(|other| segment.meets(other))
-}
-
-/// Whether a segment of a kind, with so many bytes, would be too large, or one too many.
-fn is_full(segments: &[Segment], kind: SegKind, size: u64) -> bool
-    requires { IsTrue (lie_from 0 segments.now) }
-    ensures { result ≡ is_full segments.now kind size }
-{
-    match kind {
-        SegKind::Image => is_over(total_in(segments, SegKind::Image), size),
-        SegKind::Pool | SegKind::Firmware => is_pool_full(segments, size),
-        SegKind::Stack | SegKind::Table => false,
-    }
-}
-
-/// Whether so many more bytes are too many for the pool, or it has no room for one more block.
-fn is_pool_full(segments: &[Segment], size: u64) -> bool
-    requires { IsTrue (lie_from 0 segments.now) }
-    ensures { result ≡ is_pool_full segments.now size }
-{
-    let pool = total_in(segments, SegKind::Pool);
-    let firmware = total_in(segments, SegKind::Firmware);
-    is_over(pool.saturating_add(firmware), size) || block_count(segments) >= MOST_BLOCKS
-}
-
-/// Whether so many more bytes are too many.
-fn is_over(total: u64, size: u64) -> bool
-    ensures { result ≡ nat_lt most_bytes (total + size) }
-{
-    total > MOST_BYTES || size > MOST_BYTES - total
-}
-
-fn block_count(segments: &[Segment]) -> usize
-    ensures { result ≡ block_count segments.now }
-{
-    segments
-        .iter()
-        .filter(|segment| segment.kind.is_block())
-        .count()
-}
-
-#[tactic(auto, using(crate::proofs::SegmentLemmas::total_bound))]
-fn total_in(segments: &[Segment], kind: SegKind) -> u64
-    requires { IsTrue (lie_from 0 segments.now) }
-    ensures total { result ≡ total_of segments.now kind }
-    ensures small { result ≤ 2 ^ 63 }
-{
-    let mut total = 0;
-    for segment in segments {
-        if segment.kind == kind {
-            total += segment.bytes.as_slice().len() as u64;
-        }
-    }
-    total
-}
-
-/// Where the segment is that begins at an address.
-fn index_of(segments: &[Segment], base: u64) -> Option<usize>
-    ensures found { IfSome result (IsPlaceOf segments.now base) }
-    ensures none { IfNone result ((beginning_at segments.now base ≡ Err MemRefusal.NoSegment) × (unmapped segments.now base ≡ segments.now)) }
-{
-    for (place, segment) in segments.iter().enumerate() {
-        if segment.base == base {
-            return Some(place);
-        }
-    }
-    None
 }
 
 /// Copies of all segments.

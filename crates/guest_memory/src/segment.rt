@@ -1,5 +1,6 @@
 ghost use Rattle.std.specs.Prelude.{◌≡◌, ◌≤◌, ◌<◌, ◌+◌, ◌-◌, ◌^◌, ◌++◌, length, drop, replicate, IsTrue, not, nat_lt};
 ghost use Rattle.guest_memory.specs.Segment.{is_access, is_writable, is_image, is_block, has_bytes, number_at, bytes_at, with_bytes, with_number, code_at, extent, end_of, meets};
+ghost use Rattle.guest_memory.specs.GuestMemory.{is_of};
 
 use byteorder::{ByteOrder, LittleEndian};
 use fw_types::Rows;
@@ -9,15 +10,15 @@ use std::mem;
 /// What a segment is for.
 #[derive(Clone, Copy, Debug, PartialEq, Eq)]
 pub enum SegKind {
-    /// An image that is loaded. The code may write it, and run it.
+    /// A loaded image. A driver may write it, and its code lies there.
     Image,
-    /// A block of the pool. The code may write it.
+    /// A block of the pool. A driver may write it.
     Pool,
-    /// A block that the firmware keeps.
+    /// A block of the firmware. A driver may only read it.
     Firmware,
-    /// The stack of a call. The code may write it.
+    /// The stack of a driver call. A driver may write it.
     Stack,
-    /// A table or a list of the firmware.
+    /// A table or a list of the firmware. A driver may only read it.
     Table,
 }
 
@@ -28,12 +29,12 @@ pub struct Segment {
     pub base: u64,
     /// The bytes, in order of their addresses.
     pub bytes: Rows<u8>,
-    /// What it is for.
+    /// What the segment is for.
     pub kind: SegKind,
 }
 
 impl SegKind {
-    /// Whether the code may write a segment of the kind.
+    /// Whether a driver may write a segment of the kind.
     #[inline]
     pub(crate) fn is_writable(self) -> bool
         ensures { result ≡ is_writable self }
@@ -41,7 +42,7 @@ impl SegKind {
         matches!(self, SegKind::Image | SegKind::Pool | SegKind::Stack)
     }
 
-    /// Whether the code may run a segment of the kind.
+    /// Whether a driver's code may lie in a segment of the kind.
     #[inline]
     pub(crate) fn is_image(self) -> bool
         ensures { result ≡ is_image self }
@@ -49,7 +50,7 @@ impl SegKind {
         matches!(self, SegKind::Image)
     }
 
-    /// Whether a segment of the kind is a block, which counts in the limits of the pool.
+    /// Whether a segment of the kind is a block, of the pool or of the firmware.
     pub(crate) fn is_block(self) -> bool
         ensures { result ≡ is_block self }
     {
@@ -58,7 +59,14 @@ impl SegKind {
 }
 
 impl Segment {
-    /// Whether it has all `n` bytes from an address on.
+    /// Whether the segment is of a kind.
+    pub(crate) fn is_of(&self, kind: SegKind) -> bool
+        ensures { result ≡ is_of kind self.now }
+    {
+        self.kind == kind
+    }
+
+    /// Whether the segment has all `n` bytes from an address on.
     #[inline]
     pub(crate) fn has(&self, at: u64, n: u64) -> bool
         ensures { result ≡ has_bytes self.now at n }
@@ -84,7 +92,7 @@ impl Segment {
         }
     }
 
-    /// Puts the lowest `n` bytes of a number at an address.
+    /// Writes the lowest `n` bytes of a number at an address.
     #[inline]
     pub(crate) fn put(&mut self, at: u64, n: u8, value: u64)
         requires access { IsTrue (is_access n) }
@@ -101,7 +109,7 @@ impl Segment {
         }
     }
 
-    /// Its `n` bytes from an address on.
+    /// The segment's `n` bytes from an address on.
     pub(crate) fn bytes(&self, at: u64, n: u64) -> &[u8]
         requires inside { IsTrue (has_bytes self.now at n) }
         ensures bytes { result.now ≡ bytes_at self.now at n }
@@ -111,7 +119,7 @@ impl Segment {
         &rest[..n as usize]
     }
 
-    /// Puts bytes at an address.
+    /// Writes bytes from an address on.
     pub(crate) fn put_bytes(&mut self, at: u64, bytes: &[u8])
         requires inside { IsTrue (has_bytes self.old at (length bytes.now)) }
         ensures { self.new ≡ with_bytes self.old at bytes.now }
@@ -120,7 +128,7 @@ impl Segment {
         self.bytes.replace(start, bytes);
     }
 
-    /// Puts a byte `n` times at an address. Takes no memory.
+    /// Writes a byte `n` times from an address on. Takes no memory.
     pub(crate) fn fill(&mut self, alloc: Global, at: u64, n: u64, byte: u8)
         requires inside { IsTrue (has_bytes self.old at n) }
         ensures { self.new ≡ with_bytes self.old at (replicate n byte) }
@@ -131,7 +139,7 @@ impl Segment {
         self.bytes = Rows::of(bytes);
     }
 
-    /// Copies the bytes from an address on, at most 18, and says how many there are.
+    /// Copies the segment's bytes from an address on, at most 18, and returns how many there are.
     #[inline]
     pub(crate) fn code(&self, at: u64, into: &mut [u8; 18]) -> u8
         requires { IsTrue (has_bytes self.now at 1) }
@@ -147,21 +155,21 @@ impl Segment {
         rest.len() as u8
     }
 
-    /// How many addresses it takes: as many as it has bytes, and one where it has none.
+    /// How many addresses the segment takes: as many as it has bytes, and one if it has none.
     pub(crate) fn extent(&self) -> u64
         ensures { result ≡ extent self.now }
     {
         (self.bytes.as_slice().len() as u64).max(1)
     }
 
-    /// Whether it ends by 2^63.
+    /// Whether the segment ends by 2^63.
     pub(crate) fn is_in_range(&self) -> bool
         ensures { result ≡ not (nat_lt (2 ^ 63) (end_of self.now)) }
     {
         self.base <= 1 << 63 && self.extent() <= (1 << 63) - self.base
     }
 
-    /// Whether the two have an address in common.
+    /// Whether two segments take an address in common.
     pub(crate) fn meets(&self, other: &Segment) -> bool
         ensures { result ≡ meets self.now other.now }
     {

@@ -8,7 +8,7 @@ fn bytes_of(rt: &impl AllocGlobal, len: usize, byte: u8) -> Result<Vec<u8>, Allo
     vec![in rt.alloc(); byte; len]
 }
 
-/// What mapping answers, one segment after the other.
+/// What mapping answers, each segment after those before it.
 #[test]
 fn mapping(rt: HostRuntime) -> Result<(), Fail> {
     let mut memory = Memory::new(rt.alloc());
@@ -17,10 +17,10 @@ fn mapping(rt: HostRuntime) -> Result<(), Fail> {
         // at one base, and one byte over the end
         (0x1000, 0x10, SegKind::Pool, Err(MemRefusal::Overlap)),
         (0x100F, 0x10, SegKind::Table, Err(MemRefusal::Overlap)),
-        // up to the beginning, and behind the end
+        // up to the beginning, and after the end
         (0x0FF0, 0x10, SegKind::Stack, Ok(())),
         (0x1010, 0, SegKind::Firmware, Ok(())),
-        // where a segment of no bytes is
+        // at a segment of no bytes
         (0x1010, 0, SegKind::Firmware, Err(MemRefusal::Overlap)),
         // up to 2^63, and one byte more
         (
@@ -56,7 +56,7 @@ fn mapping(rt: HostRuntime) -> Result<(), Fail> {
     Ok(())
 }
 
-/// A pool segment of the bytes 0x11, an image of 0x22 right behind it, and a table of 0x33.
+/// A pool segment of the bytes 0x11, an image of 0x22 right after it, and a table of 0x33.
 fn three_segments(rt: &impl AllocGlobal) -> Result<Memory, Fail> {
     let mut memory = Memory::new(rt.alloc());
     memory.map(0x1000, bytes_of(rt, 0x10, 0x11)?, SegKind::Pool)?;
@@ -72,7 +72,7 @@ fn reading_and_writing(rt: HostRuntime) -> Result<(), Fail> {
         (0x1004, 4, Ok(())),
         (0x1008, 8, Ok(())),
         (0x1012, 1, Ok(())),
-        // across two segments, behind one, and before any
+        // across two segments, after one, and before any
         (0x100C, 8, Err(MemRefusal::NoSegment)),
         (0x1023, 2, Err(MemRefusal::NoSegment)),
         (0, 1, Err(MemRefusal::NoSegment)),
@@ -106,7 +106,7 @@ fn ranges(rt: HostRuntime) -> Result<(), Fail> {
         (0x1000, 4, true, true),
         (0x100C, 4, true, true),
         (0x1010, 0x14, true, true),
-        // across two segments that touch, past an end, and behind it
+        // across two segments that touch, past an end, and after it
         (0x100C, 8, false, false),
         (0x1020, 5, false, false),
         (0x1024, 1, false, false),
@@ -241,5 +241,29 @@ fn copying_and_unmapping(rt: HostRuntime) -> Result<(), Fail> {
     assert_eq!(rt; memory.read(0x1010, 1), None);
     assert_eq!(rt; copy.read(0x1010, 1), Some(0x22));
     assert_eq!(rt; copy.total(SegKind::Table), 0x10);
+    Ok(())
+}
+
+/// As many blocks as there may be, and one more. Each is written, and read a hundred times out of
+/// order.
+#[test]
+fn most_blocks(rt: HostRuntime) -> Result<(), Fail> {
+    let mut memory = Memory::new(rt.alloc());
+    for number in 0..65_536u64 {
+        let base = 0x1_0000_0000 + 16 * number;
+        memory.map(base, bytes_of(&rt, 16, 0)?, SegKind::Pool)?;
+        assert_eq!(rt; memory.write(base, 8, number), Ok(()));
+    }
+    for _ in 0..100u8 {
+        for i in 0..65_536u64 {
+            let number = 40_503 * i % 65_536;
+            assert_eq!(rt; memory.read(0x1_0000_0000 + 16 * number, 8), Some(number));
+        }
+    }
+    let more = bytes_of(&rt, 16, 0)?;
+    assert_eq!(rt;
+        memory.map(0x1_0010_0000, more, SegKind::Pool),
+        Err(MemRefusal::Full)
+    );
     Ok(())
 }

@@ -5,13 +5,14 @@ use Rattle.std.proofs.lemmas.List.{length-map}
 use Rattle.std.proofs.lemmas.List.Folds.{list_any-append, list_all-append}
 use Rattle.std.proofs.lemmas.Bool.{and_parts, and_from, leb-true, le-leb, lt-ltb, leb-false, eqb-true, not-true, both_ways, cases_Bool}
 use Rattle.std.proofs.lemmas.Slice.Eq.{bytes_eq-Decides}
-use Rattle.handle_db.specs.Database.{Database, IsSound, differ, has, has_any, interfaces_in, interfaces_of, is_below, is_guid, is_handle, is_kept, is_live, most_interfaces, number_end, rise_from, unless}
+use Rattle.fw_types.specs.declared.limits.TheConstants.{HANDLE_NUMBER_END, MOST_INTERFACES}
+use Rattle.handle_db.specs.Database.{Database, IsSound, differ, has, has_any, interfaces_in, interfaces_of, is_below, is_guid, is_handle, is_kept, is_live, rise_from, unless}
 use Rattle.handle_db.specs.Installing.{InstallingKeeps, appended, install_answer, installed, is_full, new_entry, with_interface}
 use Rattle.handle_db.specs.Removing.{RemovingKeeps, without_guid, without_interface}
 use Rattle.handle_db.specs.declared.refusal.DbRefusal.{DbRefusal}
 use Rattle.handle_db.specs.declared.refusal.DbRefusal.TheVariants.{BadHandle, Already, Full}
-use Rattle.handle_db.specs.declared.entry.Entry.{Entry}
-use Rattle.handle_db.specs.declared.entry.Interface.{Interface}
+use Rattle.handle_db.specs.declared.handle_entry.HandleEntry.{HandleEntry}
+use Rattle.handle_db.specs.declared.handle_entry.Interface.{Interface}
 use Rattle.handle_db.proofs.OnlyOne.{or_parts, map-changed-none}
 use Rattle.handle_db.proofs.Order.{below-map, below_more, list_all-filter, none_below, rise_from-filter, rise_from-map, rise_from-push, head_rises}
 
@@ -58,21 +59,21 @@ length-filter-le p (first ∷ interfaces) =
 -- the parts of `is_kept`
 pub record Kept (interfaces : List Interface) : Type 0 where
   pub some : nat_lt 0 (length interfaces) ≡ true
-  pub few : length interfaces ≤ most_interfaces
+  pub few : length interfaces ≤ MOST_INTERFACES
   pub apart : differ interfaces ≡ true
 
-pub kept_parts : (entry : Entry) → is_kept entry ≡ true → Kept entry.interfaces
+pub kept_parts : (entry : HandleEntry) → is_kept entry ≡ true → Kept entry.interfaces
 kept_parts entry kept =
-    let parts = and_parts (has_any entry && nat_le (length entry.interfaces) most_interfaces) (differ entry.interfaces) kept in
-    let limits = and_parts (has_any entry) (nat_le (length entry.interfaces) most_interfaces) parts.0 in
+    let parts = and_parts (has_any entry && nat_le (length entry.interfaces) MOST_INTERFACES) (differ entry.interfaces) kept in
+    let limits = and_parts (has_any entry) (nat_le (length entry.interfaces) MOST_INTERFACES) parts.0 in
     record { some = limits.0; few = leb-true _ _ limits.1; apart = parts.1 }
 
-kept_from : (entry : Entry) → Kept entry.interfaces → is_kept entry ≡ true
+kept_from : (entry : HandleEntry) → Kept entry.interfaces → is_kept entry ≡ true
 kept_from entry kept =
-    and_from (has_any entry && nat_le (length entry.interfaces) most_interfaces) (differ entry.interfaces)
-    (and_from (has_any entry) (nat_le (length entry.interfaces) most_interfaces) kept.some (le-leb _ _ kept.few)) kept.apart
+    and_from (has_any entry && nat_le (length entry.interfaces) MOST_INTERFACES) (differ entry.interfaces)
+    (and_from (has_any entry) (nat_le (length entry.interfaces) MOST_INTERFACES) kept.some (le-leb _ _ kept.few)) kept.apart
 
-kept-appended : (entry : Entry) (new : Interface) → is_kept entry ≡ true → list_any (is_guid new.guid) entry.interfaces ≡ false → length entry.interfaces < most_interfaces → is_kept (appended new entry) ≡ true
+kept-appended : (entry : HandleEntry) (new : Interface) → is_kept entry ≡ true → list_any (is_guid new.guid) entry.interfaces ≡ false → length entry.interfaces < MOST_INTERFACES → is_kept (appended new entry) ≡ true
 kept-appended entry new kept none room =
     let parts = kept_parts entry kept in
     let longer : length (entry.interfaces ++ new ∷ []) ≡ length entry.interfaces + 1 = length-append entry.interfaces (new ∷ []) in
@@ -82,10 +83,10 @@ kept-appended entry new kept none room =
       apart = differ-push entry.interfaces new parts.apart none;
     })
 
-kept-without : (guid : List ℕ) (entry : Entry) → is_kept entry ≡ true → has_any (without_guid guid entry) ≡ true → is_kept (without_guid guid entry) ≡ true
+kept-without : (guid : List ℕ) (entry : HandleEntry) → is_kept entry ≡ true → has_any (without_guid guid entry) ≡ true → is_kept (without_guid guid entry) ≡ true
 kept-without guid entry kept some =
     let parts = kept_parts entry kept in
-    let p : Interface → Bool = λ listed. not (is_guid guid listed) in
+    let p : Interface → Bool = λ one. not (is_guid guid one) in
     kept_from (without_guid guid entry) (record {
       some = some;
       few = omega (arith, length-filter-le p entry.interfaces, parts.few);
@@ -97,9 +98,9 @@ kept-without guid entry kept some =
 -- a handle that may have one more interface
 pub record HasRoom (interfaces : List Interface) (guid : List ℕ) : Type 0 where
   pub none : list_any (is_guid guid) interfaces ≡ false
-  pub room : length interfaces < most_interfaces
+  pub room : length interfaces < MOST_INTERFACES
 
-kept-with-more : (here : Bool) (handle : ℕ) (new : Interface) (entry : Entry) (entries : List Entry) → is_kept entry ≡ true → list_all is_kept entries ≡ true
+kept-with-more : (here : Bool) (handle : ℕ) (new : Interface) (entry : HandleEntry) (entries : List HandleEntry) → is_kept entry ≡ true → list_all is_kept entries ≡ true
     → HasRoom (interfaces_in (cond here (Some entry) (find (is_handle handle) entries))) new.guid
     → (here ≡ true → list_any (is_handle handle) entries ≡ false)
     → (HasRoom (interfaces_in (find (is_handle handle) entries)) new.guid → list_all is_kept (with_interface handle new entries) ≡ true)
@@ -110,7 +111,7 @@ kept-with-more true handle new entry entries kept all room alone rest =
 kept-with-more false handle new entry entries kept all room alone rest =
     and_from (is_kept entry) (list_all is_kept (with_interface handle new entries)) kept (rest room)
 
-kept-with : (low handle : ℕ) (new : Interface) (entries : List Entry) → rise_from low entries ≡ true → list_all is_kept entries ≡ true → HasRoom (interfaces_in (find (is_handle handle) entries)) new.guid → list_all is_kept (with_interface handle new entries) ≡ true
+kept-with : (low handle : ℕ) (new : Interface) (entries : List HandleEntry) → rise_from low entries ≡ true → list_all is_kept entries ≡ true → HasRoom (interfaces_in (find (is_handle handle) entries)) new.guid → list_all is_kept (with_interface handle new entries) ≡ true
 kept-with low handle new [] rise all room = refl
 kept-with low handle new (entry ∷ entries) rise all room =
     let parts = and_parts (is_kept entry) (list_all is_kept entries) all in
@@ -119,14 +120,14 @@ kept-with low handle new (entry ∷ entries) rise all room =
     (λ here. let number : entry.handle ≡ handle = eqb-true entry.handle handle here in none_below (entry.handle + 1) handle entries above.1 (omega arith))
     (λ later. kept-with (entry.handle + 1) handle new entries above.1 parts.1 later)
 
-kept-rest : (guid : List ℕ) (here some : Bool) (entry : Entry) (rest : List Entry) → is_kept entry ≡ true → list_all is_kept rest ≡ true
+kept-rest : (guid : List ℕ) (here some : Bool) (entry : HandleEntry) (rest : List HandleEntry) → is_kept entry ≡ true → list_all is_kept rest ≡ true
     → has_any (if here then without_guid guid entry else entry) ≡ some
     → list_all is_kept (cond some ((if here then without_guid guid entry else entry) ∷ rest) rest) ≡ true
 kept-rest guid here false entry rest kept all is = all
 kept-rest guid true true entry rest kept all is = and_from (is_kept (without_guid guid entry)) (list_all is_kept rest) (kept-without guid entry kept is) all
 kept-rest guid false true entry rest kept all is = and_from (is_kept entry) (list_all is_kept rest) kept all
 
-kept-without_interface : (handle : ℕ) (guid : List ℕ) (entries : List Entry) → list_all is_kept entries ≡ true → list_all is_kept (without_interface handle guid entries) ≡ true
+kept-without_interface : (handle : ℕ) (guid : List ℕ) (entries : List HandleEntry) → list_all is_kept entries ≡ true → list_all is_kept (without_interface handle guid entries) ≡ true
 kept-without_interface handle guid [] all = refl
 kept-without_interface handle guid (entry ∷ entries) all =
     let parts = and_parts (is_kept entry) (list_all is_kept entries) all in
@@ -138,27 +139,27 @@ first_passed : {T : Type 0} (test : Bool) (refusal : DbRefusal) (rest : List (Bo
 first_passed true refusal rest value ok = absurd cc
 first_passed false refusal rest value ok = (refl, ok)
 
--- where installing is not refused there is room
+-- if installing is not refused there is room
 pub room_for_handle : (guid : List ℕ) (db : Database) → is_ok (install_answer None guid db) ≡ true → is_full db ≡ false
 room_for_handle guid db ok = (first_passed (is_full db) Full [] db.next ok).0
 
--- and where there is room it is not refused
+-- if there is room it is not refused
 pub accepted_new : (guid : List ℕ) (db : Database) → is_full db ≡ false → is_ok (install_answer None guid db) ≡ true
 accepted_new guid db room = rw room refl
 
 pub room_for_interface : (handle : ℕ) (guid : List ℕ) (db : Database) → is_ok (install_answer (Some handle) guid db) ≡ true → HasRoom (interfaces_of handle db) guid
 room_for_interface handle guid db ok =
-    let live = first_passed (not (is_live handle db)) BadHandle ((has handle guid db, Already) ∷ (nat_le most_interfaces (length (interfaces_of handle db)), Full) ∷ []) handle ok in
-    let new = first_passed (has handle guid db) Already ((nat_le most_interfaces (length (interfaces_of handle db)), Full) ∷ []) handle live.1 in
-    let room = first_passed (nat_le most_interfaces (length (interfaces_of handle db))) Full [] handle new.1 in
-    record { none = new.0; room = leb-false most_interfaces (length (interfaces_of handle db)) room.0 }
+    let live = first_passed (not (is_live handle db)) BadHandle ((has handle guid db, Already) ∷ (nat_le MOST_INTERFACES (length (interfaces_of handle db)), Full) ∷ []) handle ok in
+    let new = first_passed (has handle guid db) Already ((nat_le MOST_INTERFACES (length (interfaces_of handle db)), Full) ∷ []) handle live.1 in
+    let room = first_passed (nat_le MOST_INTERFACES (length (interfaces_of handle db))) Full [] handle new.1 in
+    record { none = new.0; room = leb-false MOST_INTERFACES (length (interfaces_of handle db)) room.0 }
 
 installed-handle : (new : Interface) (db : Database) → IsSound db → is_full db ≡ false → IsSound (installed None new db)
 installed-handle new db sound room =
-    let parts = or_parts (nat_le db.limit (length db.handles)) (nat_le number_end db.next) room in
+    let parts = or_parts (nat_le db.limit (length db.handles)) (nat_le HANDLE_NUMBER_END db.next) room in
     let free : length db.handles < db.limit = leb-false db.limit (length db.handles) parts.0 in
-    let low : db.next < number_end = leb-false number_end db.next parts.1 in
-    let entry : Entry = new_entry db.next new in
+    let low : db.next < HANDLE_NUMBER_END = leb-false HANDLE_NUMBER_END db.next parts.1 in
+    let entry : HandleEntry = new_entry db.next new in
     let last : is_below (db.next + 1) entry ≡ true = lt-ltb db.next (db.next + 1) (omega arith) in
     record {
       rising = rise_from-push 1 db.handles entry sound.rising sound.below (omega (arith, sound.from));
@@ -171,8 +172,8 @@ installed-handle new db sound room =
 
 installed-interface : (handle : ℕ) (new : Interface) (db : Database) → IsSound db → HasRoom (interfaces_of handle db) new.guid → IsSound (installed (Some handle) new db)
 installed-interface handle new db sound room =
-    let change : Entry → Entry = λ entry. if is_handle handle entry then appended new entry else entry in
-    let same : (entry : Entry) → (change entry).handle ≡ entry.handle = λ entry. elim (is_handle handle entry) as (λ b. (if b then appended new entry else entry).handle ≡ entry.handle) [ true ↦ refl | false ↦ refl ] in
+    let change : HandleEntry → HandleEntry = λ entry. if is_handle handle entry then appended new entry else entry in
+    let same : (entry : HandleEntry) → (change entry).handle ≡ entry.handle = λ entry. elim (is_handle handle entry) as (λ b. (if b then appended new entry else entry).handle ≡ entry.handle) [ true ↦ refl | false ↦ refl ] in
     record {
       rising = rise_from-map change same 1 db.handles ∙ sound.rising;
       below = below-map change same db.next db.handles ∙ sound.below;
@@ -186,7 +187,7 @@ pub installing : InstallingKeeps
 installing None new db sound ok = installed-handle new db sound (room_for_handle new.guid db ok)
 installing (Some handle) new db sound ok = installed-interface handle new db sound (room_for_interface handle new.guid db ok)
 
-pub length-filter_entries : (p : Entry → Bool) (entries : List Entry) → length (filter p entries) ≤ length entries
+pub length-filter_entries : (p : HandleEntry → Bool) (entries : List HandleEntry) → length (filter p entries) ≤ length entries
 length-filter_entries p [] = omega arith
 length-filter_entries p (first ∷ entries) =
     let rest = length-filter_entries p entries in
@@ -194,8 +195,8 @@ length-filter_entries p (first ∷ entries) =
 
 pub removing : RemovingKeeps
 removing handle guid db sound =
-    let change : Entry → Entry = λ entry. if is_handle handle entry then without_guid guid entry else entry in
-    let same : (entry : Entry) → (change entry).handle ≡ entry.handle = λ entry. elim (is_handle handle entry) as (λ b. (if b then without_guid guid entry else entry).handle ≡ entry.handle) [ true ↦ refl | false ↦ refl ] in
+    let change : HandleEntry → HandleEntry = λ entry. if is_handle handle entry then without_guid guid entry else entry in
+    let same : (entry : HandleEntry) → (change entry).handle ≡ entry.handle = λ entry. elim (is_handle handle entry) as (λ b. (if b then without_guid guid entry else entry).handle ≡ entry.handle) [ true ↦ refl | false ↦ refl ] in
     record {
       rising = rise_from-filter has_any 1 (map change db.handles) (rise_from-map change same 1 db.handles ∙ sound.rising);
       below = list_all-filter has_any (is_below db.next) (map change db.handles) (below-map change same db.next db.handles ∙ sound.below);

@@ -11,31 +11,31 @@ use Rattle.std.proofs.lemmas.Bool.{and_parts, and_from, leb-true, le-leb, ltb-tr
 use Rattle.std.proofs.lemmas.Bool.Decides.{nat_tests}
 use Rattle.handle_db.specs.Database.{is_handle, is_below, rise_from}
 use Rattle.handle_db.specs.Places.{IsPlaceOf}
-use Rattle.handle_db.specs.declared.entry.Entry.{Entry}
+use Rattle.handle_db.specs.declared.handle_entry.HandleEntry.{HandleEntry}
 use Rattle.handle_db.proofs.OnlyOne.{IsOnly, none_pass, split_at}
 
 -- past the end
-abbrev pub nobody : Entry
+abbrev pub nobody : HandleEntry
 nobody = record { handle = 0; interfaces = [] }
 
-abbrev pub handle_at : List Entry → ℕ → ℕ
+abbrev pub handle_at : List HandleEntry → ℕ → ℕ
 handle_at entries i = (get_or entries i nobody).handle
 
 -- ---- the order by places
 
-pub head_rises : (low : ℕ) (entry : Entry) (entries : List Entry) → rise_from low (entry ∷ entries) ≡ true → (low ≤ entry.handle) × (rise_from (entry.handle + 1) entries ≡ true)
+pub head_rises : (low : ℕ) (entry : HandleEntry) (entries : List HandleEntry) → rise_from low (entry ∷ entries) ≡ true → (low ≤ entry.handle) × (rise_from (entry.handle + 1) entries ≡ true)
 head_rises low entry entries rise =
     let parts = and_parts (nat_le low entry.handle) (rise_from (entry.handle + 1) entries) rise in
     (leb-true low entry.handle parts.0, parts.1)
 
-low_at : (low : ℕ) (entries : List Entry) (i : ℕ) → rise_from low entries ≡ true → i < length entries → low ≤ handle_at entries i
+low_at : (low : ℕ) (entries : List HandleEntry) (i : ℕ) → rise_from low entries ≡ true → i < length entries → low ≤ handle_at entries i
 low_at low [] i rise h = absurd (omega arith)
 low_at low (entry ∷ entries) zero rise h = (head_rises low entry entries rise).0
 low_at low (entry ∷ entries) (suc i) rise h =
     let parts = head_rises low entry entries rise in
     omega (arith, parts.0, low_at (entry.handle + 1) entries i parts.1 (omega arith))
 
-rises_at : (low : ℕ) (entries : List Entry) (i j : ℕ) → rise_from low entries ≡ true → i < j → j < length entries → handle_at entries i < handle_at entries j
+rises_at : (low : ℕ) (entries : List HandleEntry) (i j : ℕ) → rise_from low entries ≡ true → i < j → j < length entries → handle_at entries i < handle_at entries j
 rises_at low [] i j rise lt h = absurd (omega arith)
 rises_at low (entry ∷ entries) i zero rise lt h = absurd (omega arith)
 rises_at low (entry ∷ entries) zero (suc j) rise lt h =
@@ -49,15 +49,15 @@ rises_at low (entry ∷ entries) (suc i) (suc j) rise lt h =
 apart : (k at number : ℕ) {handle : ℕ} → (k < at → number < handle) → (at ≤ k → handle < number) → number ≡ handle → ⊥
 apart k at number low high same = grind (arith, low, high)
 
-module _ (entries : List Entry) (rise : rise_from 1 entries ≡ true) (handle : ℕ) where
+module _ (entries : List HandleEntry) (rise : rise_from 1 entries ≡ true) (handle : ℕ) where
   -- the comparisons with the number rise along the list, as a binary search asks
-  comparisons_rise : IsNonDecreasingBy (λ (entry : Entry). ordering_index (nat_cmp entry.handle handle)) entries
-  comparisons_rise = IsNonDecreasingBy-from_default (λ (entry : Entry). ordering_index (nat_cmp entry.handle handle)) entries nobody (λ i j le within.
+  comparisons_rise : IsNonDecreasingBy (λ (entry : HandleEntry). ordering_index (nat_cmp entry.handle handle)) entries
+  comparisons_rise = IsNonDecreasingBy-from_default (λ (entry : HandleEntry). ordering_index (nat_cmp entry.handle handle)) entries nobody (λ i j le within.
       let up : handle_at entries i ≤ handle_at entries j = grind (arith, rises_at 1 entries i j rise, λ (same : i ≡ j). ap (handle_at entries) same) in
       grind (arith, nat_tests))
 
-  -- a binary search by number ends at the handle, or where no handle has the number
-  pub searched : (r : Result ℕ ℕ) → IsSearchInRange r (length entries) → IsBinarySearchResult (λ (entry : Entry). nat_cmp entry.handle handle) entries r
+  -- a binary search by number ends at the handle, or nowhere if no handle has the number
+  pub searched : (r : Result ℕ ℕ) → IsSearchInRange r (length entries) → IsBinarySearchResult (λ (entry : HandleEntry). nat_cmp entry.handle handle) entries r
       → record { found : IfSome (result_ok r) (IsPlaceOf handle entries); none : IfNone (result_ok r) (list_any (is_handle handle) entries ≡ false) }
   searched (Ok at) within equal = record { found = record { within = within; here = λ d. ranked _ handle _ (sym (equal d)) }; none = tt }
   searched (Err at) within parted = record {
@@ -71,17 +71,17 @@ module _ (entries : List Entry) (rise : rise_from 1 entries ≡ true) (handle : 
 -- ---- one handle among them
 
 -- no handle stands below the number from which they rise
-pub none_below : (low handle : ℕ) (entries : List Entry) → rise_from low entries ≡ true → handle < low → list_any (is_handle handle) entries ≡ false
+pub none_below : (low handle : ℕ) (entries : List HandleEntry) → rise_from low entries ≡ true → handle < low → list_any (is_handle handle) entries ≡ false
 none_below low handle entries rise lt =
     none_pass (is_handle handle) nobody entries (λ k h. ne_eqb (handle_at entries k) handle (λ same. omega (arith, low_at low entries k rise h)))
 
-rise_behind : (low : ℕ) (entries : List Entry) (i : ℕ) → rise_from low entries ≡ true → i < length entries → rise_from (handle_at entries i + 1) (drop (suc i) entries) ≡ true
-rise_behind low [] i rise h = absurd (omega arith)
-rise_behind low (entry ∷ entries) zero rise h = (head_rises low entry entries rise).1
-rise_behind low (entry ∷ entries) (suc i) rise h = rise_behind (entry.handle + 1) entries i (head_rises low entry entries rise).1 (omega arith)
+rise_after : (low : ℕ) (entries : List HandleEntry) (i : ℕ) → rise_from low entries ≡ true → i < length entries → rise_from (handle_at entries i + 1) (drop (suc i) entries) ≡ true
+rise_after low [] i rise h = absurd (omega arith)
+rise_after low (entry ∷ entries) zero rise h = (head_rises low entry entries rise).1
+rise_after low (entry ∷ entries) (suc i) rise h = rise_after (entry.handle + 1) entries i (head_rises low entry entries rise).1 (omega arith)
 
 -- the entry at a handle's place is its only one
-pub only_at : (handle : ℕ) (entries : List Entry) (place : ℕ) (d : Entry) → rise_from 1 entries ≡ true → IsPlaceOf handle entries place → IsOnly (is_handle handle) entries place (get_or entries place d)
+pub only_at : (handle : ℕ) (entries : List HandleEntry) (place : ℕ) (d : HandleEntry) → rise_from 1 entries ≡ true → IsPlaceOf handle entries place → IsOnly (is_handle handle) entries place (get_or entries place d)
 only_at handle entries place d rise is =
     let here : handle_at entries place ≡ handle = is.here nobody in
     record {
@@ -92,19 +92,19 @@ only_at handle entries place d rise is =
           let below : k < place = omega (arith, length-take place entries) in
           let same : get_or (take place entries) k nobody ≡ get_or entries k nobody = get_or-take place entries k nobody below in
           rw same (ne_eqb (handle_at entries k) handle (λ e. omega (arith, rises_at 1 entries k place rise below is.within))));
-      behind = none_below (handle_at entries place + 1) handle (drop (suc place) entries) (rise_behind 1 entries place rise is.within) (omega arith);
+      after = none_below (handle_at entries place + 1) handle (drop (suc place) entries) (rise_after 1 entries place rise is.within) (omega arith);
     }
 
 -- ---- what keeps the order
 
-rise_more : (a b : ℕ) (entries : List Entry) → a ≤ b → rise_from b entries ≡ true → rise_from a entries ≡ true
+rise_more : (a b : ℕ) (entries : List HandleEntry) → a ≤ b → rise_from b entries ≡ true → rise_from a entries ≡ true
 rise_more a b [] le rise = refl
 rise_more a b (entry ∷ entries) le rise =
     let parts = head_rises b entry entries rise in
     and_from (nat_le a entry.handle) (rise_from (entry.handle + 1) entries) (le-leb a entry.handle (omega (arith, parts.0))) parts.1
 
 -- leaving out entries
-pub rise_from-filter : (p : Entry → Bool) (low : ℕ) (entries : List Entry) → rise_from low entries ≡ true → rise_from low (filter p entries) ≡ true
+pub rise_from-filter : (p : HandleEntry → Bool) (low : ℕ) (entries : List HandleEntry) → rise_from low entries ≡ true → rise_from low (filter p entries) ≡ true
 rise_from-filter p low [] rise = refl
 rise_from-filter p low (entry ∷ entries) rise =
     let parts = head_rises low entry entries rise in
@@ -115,12 +115,12 @@ rise_from-filter p low (entry ∷ entries) rise =
     ]
 
 -- changing entries but for their numbers
-pub rise_from-map : (g : Entry → Entry) → ((entry : Entry) → (g entry).handle ≡ entry.handle) → (low : ℕ) (entries : List Entry) → rise_from low (map g entries) ≡ rise_from low entries
+pub rise_from-map : (g : HandleEntry → HandleEntry) → ((entry : HandleEntry) → (g entry).handle ≡ entry.handle) → (low : ℕ) (entries : List HandleEntry) → rise_from low (map g entries) ≡ rise_from low entries
 rise_from-map g same low [] = refl
 rise_from-map g same low (entry ∷ entries) = rw (same entry, rise_from-map g same (entry.handle + 1) entries) refl
 
 -- a greater number at the end
-pub rise_from-push : (low : ℕ) (entries : List Entry) (new : Entry) → rise_from low entries ≡ true → list_all (is_below new.handle) entries ≡ true → low ≤ new.handle → rise_from low (entries ++ new ∷ []) ≡ true
+pub rise_from-push : (low : ℕ) (entries : List HandleEntry) (new : HandleEntry) → rise_from low entries ≡ true → list_all (is_below new.handle) entries ≡ true → low ≤ new.handle → rise_from low (entries ++ new ∷ []) ≡ true
 rise_from-push low [] new rise below le = and_from (nat_le low new.handle) true (le-leb low new.handle le) refl
 rise_from-push low (entry ∷ entries) new rise below le =
     let parts = head_rises low entry entries rise in
@@ -128,11 +128,11 @@ rise_from-push low (entry ∷ entries) new rise below le =
     and_from (nat_le low entry.handle) (rise_from (entry.handle + 1) (entries ++ new ∷ [])) (le-leb low entry.handle parts.0)
     (rise_from-push (entry.handle + 1) entries new parts.1 lower.1 (omega (arith, ltb-true entry.handle new.handle lower.0)))
 
-pub below-map : (g : Entry → Entry) → ((entry : Entry) → (g entry).handle ≡ entry.handle) → (high : ℕ) (entries : List Entry) → list_all (is_below high) (map g entries) ≡ list_all (is_below high) entries
+pub below-map : (g : HandleEntry → HandleEntry) → ((entry : HandleEntry) → (g entry).handle ≡ entry.handle) → (high : ℕ) (entries : List HandleEntry) → list_all (is_below high) (map g entries) ≡ list_all (is_below high) entries
 below-map g same high [] = refl
 below-map g same high (entry ∷ entries) = rw (same entry, below-map g same high entries) refl
 
-pub list_all-filter : (p q : Entry → Bool) (entries : List Entry) → list_all q entries ≡ true → list_all q (filter p entries) ≡ true
+pub list_all-filter : (p q : HandleEntry → Bool) (entries : List HandleEntry) → list_all q entries ≡ true → list_all q (filter p entries) ≡ true
 list_all-filter p q [] all = refl
 list_all-filter p q (entry ∷ entries) all =
     let parts = and_parts (q entry) (list_all q entries) all in
@@ -143,7 +143,7 @@ list_all-filter p q (entry ∷ entries) all =
     ]
 
 -- a greater number above all
-pub below_more : (a b : ℕ) (entries : List Entry) → a ≤ b → list_all (is_below a) entries ≡ true → list_all (is_below b) entries ≡ true
+pub below_more : (a b : ℕ) (entries : List HandleEntry) → a ≤ b → list_all (is_below a) entries ≡ true → list_all (is_below b) entries ≡ true
 below_more a b [] le all = refl
 below_more a b (entry ∷ entries) le all =
     let parts = and_parts (is_below a entry) (list_all (is_below a) entries) all in

@@ -1,22 +1,23 @@
 -- The handle database (UEFI 2.8, 'Protocol Handler Services'): which handles are live, and which
 -- protocol interfaces are installed on each.
-use Rattle.std.specs.Prelude.{◌≡◌, ℕ, ◌+◌, ◌^◌, ◌<◌, ◌≤◌, Bool, true, ◌&&◌, not, nat_eq, nat_le, nat_lt, List, [], ◌∷◌, length, map, filter, find, Option, Some, None, option_map, Result, Ok, Err, bytes_eq, if◌then◌else◌}
+use Rattle.std.specs.Prelude.{◌≡◌, ℕ, ◌+◌, ◌<◌, ◌≤◌, Bool, true, ◌&&◌, not, nat_eq, nat_le, nat_lt, List, [], ◌∷◌, length, map, filter, find, Option, Some, None, option_map, Result, Ok, Err, bytes_eq, if◌then◌else◌}
 use Rattle.std.specs.List.{list_any, list_all}
-use Rattle.handle_db.specs.declared.entry.Entry.{Entry}
-use Rattle.handle_db.specs.declared.entry.Interface.{Interface}
+use Rattle.fw_types.specs.declared.limits.TheConstants.{HANDLE_NUMBER_END, MOST_INTERFACES}
+use Rattle.handle_db.specs.declared.handle_entry.HandleEntry.{HandleEntry}
+use Rattle.handle_db.specs.declared.handle_entry.Interface.{Interface}
 use Rattle.handle_db.specs.declared.refusal.DbRefusal.{DbRefusal}
 use Rattle.handle_db.specs.declared.refusal.DbRefusal.TheVariants.{BadHandle, Already, Full, NotThere, OutOfMemory}
 
 -- the live handles by rising number, each with its interfaces in order of installation; the number of
 -- the next new handle; and how many handles may be live
 pub record Database : Type 0 where
-  pub handles : List Entry
+  pub handles : List HandleEntry
   pub next : ℕ
   pub limit : ℕ
 
 -- ---- looking
 
-abbrev pub is_handle : ℕ → Entry → Bool
+abbrev pub is_handle : ℕ → HandleEntry → Bool
 is_handle handle entry = nat_eq entry.handle handle
 
 -- whether an interface is one of the protocol that a GUID names
@@ -26,64 +27,55 @@ is_guid guid interface = bytes_eq interface.guid guid
 abbrev pub is_live : ℕ → Database → Bool
 is_live handle db = list_any (is_handle handle) db.handles
 
-abbrev pub interfaces_in : Option Entry → List Interface
+abbrev pub interfaces_in : Option HandleEntry → List Interface
 interfaces_in None = []
 interfaces_in (Some entry) = entry.interfaces
 
--- a handle's interfaces in order of installation, none where it is not live
+-- a handle's interfaces in order of installation, none if it is not live
 abbrev pub interfaces_of : ℕ → Database → List Interface
 interfaces_of handle db = interfaces_in (find (is_handle handle) db.handles)
 
 -- a handle's interface of a protocol, with its owner
 abbrev pub interface_of : ℕ → List ℕ → Database → Option (ℕ × ℕ)
 interface_of handle guid db =
-    option_map (λ (found : Interface). (found.interface, found.owner)) (find (is_guid guid) (interfaces_of handle db))
+    option_map (λ (one : Interface). (one.interface, one.owner)) (find (is_guid guid) (interfaces_of handle db))
 
 -- whether a handle has a protocol
-abbrev pub has_guid : List ℕ → Entry → Bool
+abbrev pub has_guid : List ℕ → HandleEntry → Bool
 has_guid guid entry = list_any (is_guid guid) entry.interfaces
 
 abbrev pub has : ℕ → List ℕ → Database → Bool
 has handle guid db = list_any (is_guid guid) (interfaces_of handle db)
 
-abbrev pub numbers : List Entry → List ℕ
-numbers entries = map (λ (entry : Entry). entry.handle) entries
+abbrev pub numbers : List HandleEntry → List ℕ
+numbers entries = map (λ (entry : HandleEntry). entry.handle) entries
 
 -- the handles that have a protocol, or all, by rising number
 abbrev pub handles_with : Option (List ℕ) → Database → List ℕ
 handles_with None db = numbers db.handles
 handles_with (Some guid) db = numbers (filter (has_guid guid) db.handles)
 
--- the interface of a protocol, with its owner, of the least handle that has it
-abbrev pub interface_in : List ℕ → Option Entry → Option (ℕ × ℕ)
-interface_in guid found = option_map (λ (listed : Interface). (listed.interface, listed.owner)) (find (is_guid guid) (interfaces_in found))
+-- an entry's interface of a protocol, with its owner, if there is an entry
+abbrev pub interface_in : List ℕ → Option HandleEntry → Option (ℕ × ℕ)
+interface_in guid entry =
+    option_map (λ (one : Interface). (one.interface, one.owner)) (find (is_guid guid) (interfaces_in entry))
 
+-- the interface of a protocol, with its owner, of the handle with the least number that has it
 abbrev pub first_with : List ℕ → Database → Option (ℕ × ℕ)
 first_with guid db = interface_in guid (find (has_guid guid) db.handles)
 
 -- a handle's protocols in order of installation, each with its interface and the owner of it
 abbrev pub protocols_of : ℕ → Database → List (List ℕ × ℕ × ℕ)
-protocols_of handle db =
-    map (λ (listed : Interface). (listed.guid, listed.interface, listed.owner)) (interfaces_of handle db)
-
--- ---- limits
-
--- the most interfaces of a handle
-abbrev pub most_interfaces : ℕ
-most_interfaces = 64
-
--- handle numbers stay below this
-abbrev pub number_end : ℕ
-number_end = 2 ^ 62
+protocols_of handle db = map (λ (one : Interface). (one.guid, one.interface, one.owner)) (interfaces_of handle db)
 
 -- ---- what holds of every database
 
 -- whether handle numbers rise strictly, from a number on
-abbrev pub rise_from : ℕ → List Entry → Bool
+abbrev pub rise_from : ℕ → List HandleEntry → Bool
 rise_from low [] = true
 rise_from low (entry ∷ entries) = nat_le low entry.handle && rise_from (entry.handle + 1) entries
 
-abbrev pub is_below : ℕ → Entry → Bool
+abbrev pub is_below : ℕ → HandleEntry → Bool
 is_below high entry = nat_lt entry.handle high
 
 -- whether no two interfaces are of one protocol
@@ -91,26 +83,26 @@ abbrev pub differ : List Interface → Bool
 differ [] = true
 differ (interface ∷ interfaces) = not (list_any (is_guid interface.guid) interfaces) && differ interfaces
 
-abbrev pub has_any : Entry → Bool
+abbrev pub has_any : HandleEntry → Bool
 has_any entry = nat_lt 0 (length entry.interfaces)
 
 -- whether a handle has an interface, no more than it may have, and no protocol twice
-abbrev pub is_kept : Entry → Bool
-is_kept entry = has_any entry && nat_le (length entry.interfaces) most_interfaces && differ entry.interfaces
+abbrev pub is_kept : HandleEntry → Bool
+is_kept entry = has_any entry && nat_le (length entry.interfaces) MOST_INTERFACES && differ entry.interfaces
 
--- The handles rise strictly from 1 and lie below the next number, so a number is not used again. Each
--- has its interfaces within the limit and with no protocol twice; a handle without one is not live.
+-- The handle numbers rise strictly from 1 and lie below the next number, so that a new handle gets a number
+-- that no live handle has. Each handle has an interface, no more than MOST_INTERFACES and no protocol twice.
 pub record IsSound (db : Database) : Type 0 where
   pub rising : rise_from 1 db.handles ≡ true
   pub below : list_all (is_below db.next) db.handles ≡ true
   pub kept : list_all is_kept db.handles ≡ true
   pub few : length db.handles ≤ db.limit
   pub from : 0 < db.next
-  pub end : db.next ≤ number_end
+  pub end : db.next ≤ HANDLE_NUMBER_END
 
 -- ---- answers
 
--- A call gives this answer, unless memory ran out.
+-- a call gives this answer, except if it is out of memory
 abbrev pub Gives : {T : Type 0} → Result T DbRefusal → Result T DbRefusal → Type 0
 Gives (Ok value) answer = answer ≡ Ok value
 Gives (Err BadHandle) answer = answer ≡ Err BadHandle
@@ -119,7 +111,7 @@ Gives (Err Full) answer = answer ≡ Err Full
 Gives (Err NotThere) answer = answer ≡ Err NotThere
 Gives (Err OutOfMemory) answer = Unit {0}
 
--- the first refusal of a list whose test holds, or the value where none does
+-- the first refusal of a list whose test holds, or the value if none does
 abbrev pub unless : {T : Type 0} → List (Bool × DbRefusal) → T → Result T DbRefusal
 unless [] value = Ok value
 unless ((test, refusal) ∷ rest) value = if test then Err refusal else unless rest value

@@ -1,34 +1,32 @@
-ghost use Rattle.std.specs.Prelude.{◌≡◌, ◌≤◌, ◌<◌, [], true, IfOk, IfErr, OnOk, OnErr, None, Some, Ok, Err, filter, length, remove, slice_index_or, slice_set};
+ghost use Rattle.std.specs.Prelude.{◌≡◌, ◌≤◌, ◌<◌, [], true, IfOk, IfErr, OnOk, OnErr, None, Some, Ok, Err, filter, length, nat_eq, remove, slice_index_or, slice_set};
 ghost use Rattle.std.specs.List.{list_all};
-ghost use Rattle.handle_db.specs.Database.{Gives, IsSound, first_with, handles_with, has_any, interface_of, interfaces_of, is_live, most_interfaces, protocols_of};
+ghost use Rattle.handle_db.specs.Database.{Gives, IsSound, first_with, handles_with, has_any, interface_of, interfaces_of, is_live, protocols_of};
 ghost use Rattle.handle_db.specs.Installing.{appended, install_answer, installed, is_full};
 ghost use Rattle.handle_db.specs.Removing.{remove_answer, removed};
 ghost use Rattle.handle_db.specs.Places.{IsPlaceOf, removed_at};
-ghost use Rattle.handle_db.specs.declared.entry.Entry.{Entry as EntryValue};
+ghost use Rattle.handle_db.specs.declared.handle_entry.HandleEntry.{HandleEntry as EntryValue};
+ghost use Rattle.handle_db.specs.declared.handle_entry.Interface.{Interface as InterfaceValue};
 
-use crate::entry::{Entry, Interface};
+use crate::handle_entry::{HandleEntry, Interface};
 use crate::places::{
     all_handles, copies_of, count_that_have, entry_of, first_that_has, handles_that_have, has_guid,
-    interface_in, interface_place, place_of, protocols_in,
+    has_no_room, interface_in, interface_place, place_of, protocols_in,
 };
 use crate::refusal::{DbRefusal, Removed};
-use fw_types::{Guid, Handle, OutOfMemory, Rows};
+use fw_types::{Guid, HANDLE_NUMBER_END, Handle, MOST_INTERFACES, OutOfMemory, Rows};
 use std::alloc::Global;
 use std::marker::Model;
 
-/// The most interfaces of a handle.
-const MOST_INTERFACES: usize = 64;
-
-/// Handle numbers stay below this.
-const NUMBER_END: u64 = 1 << 62;
-
 /// The handles that are live, by rising number, each with its interfaces in order of installation
-/// (UEFI 2.8, 7.3: Protocol Handler Services). New handles get rising numbers from 1, and a number is
-/// not used again.
+/// (UEFI 2.8, 7.3: Protocol Handler Services).
+///
+/// New handles get rising numbers from 1, and the number of a handle that is removed is not given to
+/// another. A handle's number is used again only after a rollback, which puts an earlier database back
+/// together with its next number.
 #[derive(Drop)]
 pub struct Db {
     alloc: Global,
-    handles: Vec<Entry>,
+    handles: Vec<HandleEntry>,
     next: Handle,
     limit: u32,
 }
@@ -53,7 +51,7 @@ impl Model for Db {
 
 impl Db {
     /// A database without handles, in which at most `limit` handles may be live. Its first handle will
-    /// be handle 1. Takes no memory; `alloc` serves the later calls.
+    /// be handle 1. Takes no memory. `alloc` gives the memory of the later calls.
     pub fn new(alloc: Global, limit: u32) -> Db
         ensures { result ≡ record { handles = []; next = 1; limit = limit } }
     {
@@ -65,16 +63,20 @@ impl Db {
         }
     }
 
-    /// Installs an interface of a protocol on a handle, behind the interfaces that it has, or on a new
-    /// handle where none is named, and answers the handle (UEFI 2.8, 7.3: InstallProtocolInterface).
-    /// `interface` is an address in guest memory and may be 0; `owner` is the image that installs it.
+    /// Installs an interface of a protocol and answers the handle that has it now (UEFI 2.8, 7.3:
+    /// InstallProtocolInterface). If a handle is given, the interface becomes the last of its
+    /// interfaces; if none is given, it becomes the first interface of a new handle. `interface` is an
+    /// address in guest memory and may be 0. `owner` is the handle of the image that installs it.
     ///
     /// # Errors
     ///
-    /// In this order: `BadHandle` where the handle that is named is not live; `Already` where it has the
-    /// protocol; `Full` where it has 64 interfaces, and for a new handle where as many handles are live
-    /// as may be or the next handle number is 2^62; `OutOfMemory` where there is no memory. After each
-    /// of them the database is as before.
+    /// The first of these that applies. The database is then as before.
+    ///
+    /// - `BadHandle` if the handle that is given is not live.
+    /// - `Already` if the handle that is given has the protocol.
+    /// - `Full` if the handle that is given has `MOST_INTERFACES` interfaces. For a new handle, `Full` if
+    ///   as many handles are live as may be, or if the next handle number is `HANDLE_NUMBER_END`.
+    /// - `OutOfMemory` if there is no memory for the interface.
     pub fn install(
         &mut self,
         handle: Option<Handle>,
@@ -83,7 +85,8 @@ impl Db {
         owner: Handle,
     ) -> Result<Handle, DbRefusal>
         ensures answer { Gives result (install_answer handle guid self.old) }
-        ensures ok { OnOk result (self.new ≡ installed handle (record { guid = guid; interface = interface; owner = owner }) self.old) }
+        ensures ok { let new : InterfaceValue = record { guid = guid; interface = interface; owner = owner } in
+            OnOk result (self.new ≡ installed handle new self.old) }
         ensures err { OnErr result (self.new ≡ self.old) }
     {
         let interface = Interface {
@@ -97,13 +100,16 @@ impl Db {
         }
     }
 
-    /// Removes a handle's interface of a protocol, and the handle with it where it was the last, and
-    /// answers what went (UEFI 2.8, 7.3: UninstallProtocolInterface). Takes no memory.
+    /// Removes a handle's interface of a protocol and answers what it was (UEFI 2.8, 7.3:
+    /// UninstallProtocolInterface). If it was the handle's last interface, the handle goes too. Takes no
+    /// memory.
     ///
     /// # Errors
     ///
-    /// `BadHandle` where the handle is not live; else `NotThere` where it does not have the protocol.
-    /// After both the database is as before.
+    /// The first of these that applies. The database is then as before.
+    ///
+    /// - `BadHandle` if the handle is not live.
+    /// - `NotThere` if the handle does not have the protocol.
     pub fn remove(&mut self, handle: Handle, guid: Guid) -> Result<Removed, DbRefusal>
         ensures answer { result ≡ remove_answer handle guid self.old }
         ensures ok { OnOk result (self.new ≡ removed handle guid self.old) }
@@ -116,18 +122,13 @@ impl Db {
         let Some(place) = interface_place(interfaces, guid) else {
             return Err(DbRefusal::NotThere);
         };
-        let gone = interfaces.len() == 1;
+        let count = interfaces.len();
         let interface = take_at(&mut self.handles, at, place);
         drop_at(&mut self.handles, at);
-        Ok(Removed {
-            interface: interface.interface,
-            owner: interface.owner,
-            place: place as u32,
-            gone,
-        })
+        Ok(removal(&interface, place, count))
     }
 
-    /// Whether a number is that of a live handle, which 0 never is. Takes no memory.
+    /// Whether a number is that of a live handle. No live handle has the number 0. Takes no memory.
     pub fn is_live(&self, handle: u64) -> bool
         ensures { result ≡ is_live handle self.now }
     {
@@ -135,8 +136,8 @@ impl Db {
     }
 
     /// The address in guest memory and the owner of a handle's interface of a protocol (UEFI 2.8, 7.3:
-    /// HandleProtocol); `None` exactly where the handle is not live or does not have the protocol. Takes no
-    /// memory.
+    /// HandleProtocol). It is `None` exactly if the handle is not live or does not have the protocol.
+    /// Takes no memory.
     pub fn interface(&self, handle: Handle, guid: Guid) -> Option<(u64, Handle)>
         ensures { result ≡ interface_of handle guid self.now }
     {
@@ -145,12 +146,12 @@ impl Db {
         Some((found.interface, found.owner))
     }
 
-    /// The live handles that have a protocol, or all where none is named, by rising number (UEFI 2.8, 7.3:
-    /// LocateHandle).
+    /// The live handles that have a protocol, by rising number (UEFI 2.8, 7.3: LocateHandle). If no
+    /// protocol is given, they are all live handles.
     ///
     /// # Errors
     ///
-    /// `OutOfMemory` where there is no memory for the list.
+    /// `OutOfMemory` if there is no memory for the list.
     #[tactic(auto, using(crate::proofs::Changes::few_numbers))]
     pub fn handles_with(&self, guid: Option<Guid>) -> Result<Vec<Handle>, OutOfMemory>
         ensures handles { IfOk result (λ handles. handles.items ≡ handles_with guid self.now) }
@@ -162,11 +163,11 @@ impl Db {
         }
     }
 
-    /// How many handles `handles_with` gives. Takes no memory.
+    /// How many handles `handles_with` lists. Takes no memory.
     pub fn count_with(&self, guid: Option<Guid>) -> u32
         ensures { result ≡ length (handles_with guid self.now) }
     {
-        // the limit's range is told by reading it
+        // reading the limit shows that it fits in 32 bits
         let _most = self.limit;
         match guid {
             Some(guid) => count_that_have(self.handles.as_slice(), guid) as u32,
@@ -174,8 +175,9 @@ impl Db {
         }
     }
 
-    /// The address in guest memory and the owner of the interface of a protocol on the least handle that
-    /// has it (UEFI 2.8, 7.3: LocateProtocol); `None` exactly where no handle has it. Takes no memory.
+    /// The address in guest memory and the owner of the interface of a protocol on the handle with the
+    /// least number that has it (UEFI 2.8, 7.3: LocateProtocol). It is `None` exactly if no handle has
+    /// the protocol. Takes no memory.
     pub fn first_with(&self, guid: Guid) -> Option<(u64, Handle)>
         ensures { result ≡ first_with guid self.now }
     {
@@ -184,7 +186,8 @@ impl Db {
         Some((found.interface, found.owner))
     }
 
-    /// How many interfaces a handle has, 0 where it is not live and 64 at most. Takes no memory.
+    /// How many interfaces a handle has: 0 if it is not live, and at most `MOST_INTERFACES`. Takes no
+    /// memory.
     pub fn interface_count(&self, handle: Handle) -> usize
         ensures { result ≡ length (interfaces_of handle self.now) }
     {
@@ -194,24 +197,24 @@ impl Db {
         }
     }
 
-    /// Whether there is no room for a new handle: as many handles are live as may be, or the next handle
-    /// number is 2^62. Takes no memory.
+    /// Whether there is no room for a new handle: whether as many handles are live as may be, or the next
+    /// handle number is `HANDLE_NUMBER_END`. Takes no memory.
     pub fn is_full(&self) -> bool
         ensures { result ≡ is_full self.now }
     {
-        self.handles.len() >= self.limit as usize || self.next.get() >= NUMBER_END
+        self.handles.len() >= self.limit as usize || self.next.get() >= HANDLE_NUMBER_END
     }
 
     /// The protocols of a handle in order of installation, each with its interface's address in guest
-    /// memory and its owner (UEFI 2.8, 7.3: ProtocolsPerHandle): an empty list for a handle that is not
-    /// live, and at most 64.
+    /// memory and its owner (UEFI 2.8, 7.3: ProtocolsPerHandle). A handle that is not live has none, and
+    /// a live one has at most `MOST_INTERFACES`.
     ///
     /// # Errors
     ///
-    /// `OutOfMemory` where there is no memory for the list.
+    /// `OutOfMemory` if there is no memory for the list.
     pub fn protocols_of(&self, handle: Handle) -> Result<Vec<(Guid, u64, Handle)>, OutOfMemory>
         ensures protocols { IfOk result (λ protocols. protocols.items ≡ protocols_of handle self.now) }
-        ensures few { IfOk result (λ protocols. length protocols.items ≤ most_interfaces) }
+        ensures few { IfOk result (λ protocols. length protocols.items ≤ MOST_INTERFACES) }
     {
         match entry_of(self.handles.as_slice(), handle.get()) {
             Some(entry) => protocols_in(self.alloc, entry.interfaces.as_slice()),
@@ -223,7 +226,7 @@ impl Db {
     ///
     /// # Errors
     ///
-    /// `OutOfMemory` where there is no memory for it.
+    /// `OutOfMemory` if there is no memory for it.
     pub fn copy(&self) -> Result<Db, OutOfMemory>
         ensures { IfOk result (λ copy. copy ≡ self.now) }
     {
@@ -236,14 +239,15 @@ impl Db {
         })
     }
 
-    /// What holds of every database: handle numbers rise and stay below the next one, each handle has
-    /// an interface and no protocol twice, and the limits are kept. Does nothing.
+    /// Says what holds of every database and does nothing: handle numbers rise and lie below the next
+    /// one, each handle has an interface and no protocol twice, and no limit is passed.
     pub fn soundness(&self)
         ensures { IsSound self.now }
     {
         let _handles = &self.handles;
     }
 
+    /// Installs an interface on a new handle.
     fn add_handle(&mut self, interface: Interface) -> Result<Handle, DbRefusal>
         ensures answer { Gives result (install_answer None interface.guid self.old) }
         ensures ok { OnOk result (self.new ≡ installed None interface self.old) }
@@ -255,11 +259,12 @@ impl Db {
         let handle = self.next;
         let mut interfaces = Rows::of(Vec::new(self.alloc));
         interfaces.push(interface)?;
-        self.handles.push(Entry { handle, interfaces })?;
+        self.handles.push(HandleEntry { handle, interfaces })?;
         self.next = handle.next();
         Ok(handle)
     }
 
+    /// Installs an interface on a handle that is given.
     fn add_interface(&mut self, handle: Handle, interface: Interface) -> Result<Handle, DbRefusal>
         ensures answer { Gives result (install_answer (Some handle) interface.guid self.old) }
         ensures ok { OnOk result (self.new ≡ installed (Some handle) interface self.old) }
@@ -270,7 +275,7 @@ impl Db {
         Ok(handle)
     }
 
-    /// Where a handle stands that may have one more interface, of this protocol.
+    /// The place of a handle on which an interface of this protocol may be installed, or why it may not.
     fn room_at(&self, handle: Handle, guid: Guid) -> Result<usize, DbRefusal>
         ensures refused { IfErr result (λ refusal. install_answer (Some handle) guid self.now ≡ Err refusal) }
         ensures accepted { OnOk result (install_answer (Some handle) guid self.now ≡ Ok handle) }
@@ -283,22 +288,22 @@ impl Db {
         if has_guid(interfaces, guid) {
             return Err(DbRefusal::Already);
         }
-        if interfaces.len() >= MOST_INTERFACES {
+        if has_no_room(interfaces) {
             return Err(DbRefusal::Full);
         }
         Ok(place)
     }
 }
 
-/// Puts an interface behind those of the handle at a place.
+/// Puts an interface after those of the handle at a place.
 fn append_at(
-    entries: &mut Vec<Entry>,
+    entries: &mut Vec<HandleEntry>,
     place: usize,
     interface: Interface,
 ) -> Result<(), OutOfMemory>
     requires { place < length entries.old.items }
-    ensures ok { (other : EntryValue) → OnOk result (entries.new.items
-        ≡ slice_set entries.old.items place (appended interface (slice_index_or entries.old.items place other))) }
+    ensures ok { (other : EntryValue) → let entry = slice_index_or entries.old.items place other in
+        OnOk result (entries.new.items ≡ slice_set entries.old.items place (appended interface entry)) }
     ensures err { OnErr result (entries.new.items ≡ entries.old.items) }
 {
     let entry = &mut entries[place];
@@ -306,18 +311,38 @@ fn append_at(
 }
 
 /// Takes out the interface at a place of the handle at a place.
-fn take_at(entries: &mut Vec<Entry>, at: usize, place: usize) -> Interface
+fn take_at(entries: &mut Vec<HandleEntry>, at: usize, place: usize) -> Interface
     requires handle { at < length entries.old.items }
     requires interface { (other : EntryValue) → place < length (slice_index_or entries.old.items at other).interfaces }
-    ensures taken { (other : EntryValue) → result ≡ slice_index_or (slice_index_or entries.old.items at other).interfaces place result }
-    ensures rest { (other : EntryValue) → entries.new.items ≡ slice_set entries.old.items at (removed_at place (slice_index_or entries.old.items at other)) }
+    ensures taken { (other : EntryValue) → let entry = slice_index_or entries.old.items at other in
+        result ≡ slice_index_or entry.interfaces place result }
+    ensures rest { (other : EntryValue) → let entry = slice_index_or entries.old.items at other in
+        entries.new.items ≡ slice_set entries.old.items at (removed_at place entry) }
 {
     let entry = &mut entries[at];
     entry.interfaces.remove(place)
 }
 
-/// Takes out the handle at a place where it has no interface, and all others have one.
-fn drop_at(entries: &mut Vec<Entry>, at: usize)
+/// What is answered of an interface that was at a place among a number of interfaces of its handle.
+fn removal(interface: &Interface, place: usize, count: usize) -> Removed
+    requires { place < MOST_INTERFACES }
+    ensures { result ≡ record {
+      interface = interface.now.interface;
+      owner = interface.now.owner;
+      place = place;
+      gone = nat_eq count 1;
+    } }
+{
+    Removed {
+        interface: interface.interface,
+        owner: interface.owner,
+        place: place as u32,
+        gone: count == 1,
+    }
+}
+
+/// Takes out the handle at a place if it has no interface. All other handles have one.
+fn drop_at(entries: &mut Vec<HandleEntry>, at: usize)
     requires within { at < length entries.old.items }
     requires others { list_all has_any (remove entries.old.items at) ≡ true }
     ensures { entries.new.items ≡ filter has_any entries.old.items }

@@ -1,14 +1,15 @@
-//! Laws of the database's single changes, over the definitions alone.
+//! Laws of the database's single changes, over the definitions alone. Each is the contract of a function
+//! without code.
 
 ghost use Rattle.handle_db.specs.Installing.{InstallingKeeps};
 ghost use Rattle.handle_db.specs.Removing.{RemovingKeeps};
 
-/// Installing an interface leaves a sound database.
+/// If an interface may be installed, a sound database is sound afterwards.
 pub fn installing_keeps()
     ensures { InstallingKeeps }
 {}
 
-/// Removing an interface leaves a sound database.
+/// After an interface is removed, a sound database is sound.
 pub fn removing_keeps()
     ensures { RemovingKeeps }
 {}

@@ -1,14 +1,14 @@
-ghost use Rattle.std.specs.Prelude.{◌≡◌, ◌<◌, ◌≤◌, find, map, filter, false, true, is_some, length, option_copied, IfSome, IfNone, IfOk};
+ghost use Rattle.std.specs.Prelude.{◌≡◌, ◌<◌, ◌≤◌, find, map, filter, false, true, is_some, length, nat_le, option_copied, IfSome, IfNone, IfOk};
 ghost use Rattle.std.specs.List.{list_any, position};
 ghost use Rattle.handle_db.specs.Database.{has_guid as has_protocol, is_guid, is_handle, numbers, rise_from};
 ghost use Rattle.handle_db.specs.Places.{IsPlaceOf};
 
-use crate::entry::{Entry, Interface};
-use fw_types::{Guid, Handle, OutOfMemory, Rows};
+use crate::handle_entry::{HandleEntry, Interface};
+use fw_types::{Guid, Handle, MOST_INTERFACES, OutOfMemory, Rows};
 use std::alloc::Global;
 
-/// Where a handle stands among handles that rise by number.
-pub fn place_of(entries: &[Entry], handle: u64) -> Option<usize>
+/// The place of a handle among entries with rising handle numbers.
+pub fn place_of(entries: &[HandleEntry], handle: u64) -> Option<usize>
     requires { rise_from 1 entries.now ≡ true }
     ensures found { IfSome result (IsPlaceOf handle entries.now) }
     ensures none { IfNone result (list_any (is_handle handle) entries.now ≡ false) }
@@ -18,8 +18,8 @@ pub fn place_of(entries: &[Entry], handle: u64) -> Option<usize>
         .ok()
 }
 
-/// The entry of a handle among handles that rise by number.
-pub fn entry_of(entries: &[Entry], handle: u64) -> Option<&Entry>
+/// The entry of a handle among entries with rising handle numbers.
+pub fn entry_of(entries: &[HandleEntry], handle: u64) -> Option<&HandleEntry>
     requires { rise_from 1 entries.now ≡ true }
     ensures found { option_copied result ≡ find (is_handle handle) entries.now }
     ensures live { is_some result ≡ list_any (is_handle handle) entries.now }
@@ -34,25 +34,32 @@ pub fn entry_of(entries: &[Entry], handle: u64) -> Option<&Entry>
 pub fn interface_in(interfaces: &[Interface], guid: Guid) -> Option<&Interface>
     ensures { option_copied result ≡ find (is_guid guid) interfaces.now }
 {
-    interfaces.iter().find(|listed| listed.guid == guid)
+    interfaces.iter().find(|one| one.guid == guid)
 }
 
-/// Its place among the interfaces of the handle.
+/// The place of a handle's interface of a protocol among the interfaces of that handle.
 pub fn interface_place(interfaces: &[Interface], guid: Guid) -> Option<usize>
     ensures { result ≡ position (is_guid guid) interfaces.now }
 {
-    interfaces.iter().position(|listed| listed.guid == guid)
+    interfaces.iter().position(|one| one.guid == guid)
 }
 
 /// Whether one of a handle's interfaces is of a protocol.
 pub fn has_guid(interfaces: &[Interface], guid: Guid) -> bool
     ensures { result ≡ list_any (is_guid guid) interfaces.now }
 {
-    interfaces.iter().any(|listed| listed.guid == guid)
+    interfaces.iter().any(|one| one.guid == guid)
+}
+
+/// Whether a handle has as many interfaces as it may have.
+pub fn has_no_room(interfaces: &[Interface]) -> bool
+    ensures { result ≡ nat_le MOST_INTERFACES (length interfaces.now) }
+{
+    interfaces.len() >= MOST_INTERFACES as usize
 }
 
 /// The numbers of all handles.
-pub fn all_handles(alloc: Global, entries: &[Entry]) -> Result<Vec<Handle>, OutOfMemory>
+pub fn all_handles(alloc: Global, entries: &[HandleEntry]) -> Result<Vec<Handle>, OutOfMemory>
     ensures { IfOk result (λ handles. handles.items ≡ numbers entries.now) }
 {
     Ok(entries.iter().map(|entry| entry.handle).collect(alloc)?)
@@ -61,7 +68,7 @@ pub fn all_handles(alloc: Global, entries: &[Entry]) -> Result<Vec<Handle>, OutO
 /// The numbers of the handles that have a protocol.
 pub fn handles_that_have(
     alloc: Global,
-    entries: &[Entry],
+    entries: &[HandleEntry],
     guid: Guid,
 ) -> Result<Vec<Handle>, OutOfMemory>
     ensures { IfOk result (λ handles. handles.items ≡ numbers (filter (has_protocol guid) entries.now)) }
@@ -76,7 +83,7 @@ pub fn handles_that_have(
 }
 
 /// How many handles have a protocol.
-pub fn count_that_have(entries: &[Entry], guid: Guid) -> usize
+pub fn count_that_have(entries: &[HandleEntry], guid: Guid) -> usize
     ensures value { result ≡ length (numbers (filter (has_protocol guid) entries.now)) }
     ensures few { result ≤ length entries.now }
 {
@@ -89,8 +96,8 @@ pub fn count_that_have(entries: &[Entry], guid: Guid) -> usize
     count
 }
 
-/// The first handle that has a protocol.
-pub fn first_that_has(entries: &[Entry], guid: Guid) -> Option<&Entry>
+/// The first entry whose handle has a protocol.
+pub fn first_that_has(entries: &[HandleEntry], guid: Guid) -> Option<&HandleEntry>
     ensures { option_copied result ≡ find (has_protocol guid) entries.now }
 {
     entries
@@ -98,29 +105,30 @@ pub fn first_that_has(entries: &[Entry], guid: Guid) -> Option<&Entry>
         .find(|entry| has_guid(entry.interfaces.as_slice(), guid))
 }
 
-/// A handle's protocols, each with its interface and the owner of it.
+/// The protocols of a handle's interfaces, each with the interface's address and its owner.
 pub fn protocols_in(
     alloc: Global,
     interfaces: &[Interface],
 ) -> Result<Vec<(Guid, u64, Handle)>, OutOfMemory>
-    ensures { IfOk result (λ protocols. protocols.items ≡ map (λ listed. (listed.guid, listed.interface, listed.owner)) interfaces.now) }
+    ensures { let named = map (λ one. (one.guid, one.interface, one.owner)) interfaces.now in
+        IfOk result (λ protocols. protocols.items ≡ named) }
 {
     Ok(
         interfaces
             .iter()
-            .map(|listed| (listed.guid, listed.interface, listed.owner))
+            .map(|one| (one.guid, one.interface, one.owner))
             .collect(alloc)?,
     )
 }
 
 /// Copies of all entries.
-pub fn copies_of(alloc: Global, entries: &[Entry]) -> Result<Vec<Entry>, OutOfMemory>
+pub fn copies_of(alloc: Global, entries: &[HandleEntry]) -> Result<Vec<HandleEntry>, OutOfMemory>
     ensures { IfOk result (λ copies. copies.items ≡ entries.now) }
 {
     let mut copies = Vec::with_capacity(alloc, entries.len())?;
     for entry in entries {
         let interfaces = Rows::of(Vec::from_slice(alloc, entry.interfaces.as_slice())?);
-        copies.push(Entry {
+        copies.push(HandleEntry {
             handle: entry.handle,
             interfaces,
         })?;

@@ -14,13 +14,13 @@ pub enum DbRefusal {
     /// The handle has the protocol.
     #[error("the handle has the protocol")]
     Already,
-    /// A limit on handles, on handle numbers or on the interfaces of a handle is met.
+    /// There is no room for a handle, for a handle number or for an interface of the handle.
     #[error("a limit of the handle database is met")]
     Full,
     /// The handle does not have the protocol.
     #[error("the handle does not have the protocol")]
     NotThere,
-    /// There was no memory.
+    /// There is no memory.
     #[error("out of memory")]
     OutOfMemory,
 }
@@ -44,12 +44,12 @@ impl<T: Drop> From<AllocFailed<T>> for DbRefusal {
 /// An interface that was removed.
 #[derive(Clone, Copy, Debug, PartialEq, Eq)]
 pub struct Removed {
-    /// Its address.
+    /// Its address in guest memory.
     pub interface: u64,
-    /// The handle of the image that had installed it.
+    /// The handle of the image that installed it.
     pub owner: Handle,
-    /// Its place among the interfaces of its handle, from 0.
+    /// Its place among the interfaces of its handle, counted from 0.
     pub place: u32,
-    /// Whether it was the handle's last, so that the handle is no longer live.
+    /// Whether it was the handle's last interface, so that the handle is no longer live.
     pub gone: bool,
 }

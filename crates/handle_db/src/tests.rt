@@ -1,5 +1,5 @@
 use crate::{Db, DbRefusal, Removed};
-use fw_types::{Guid, Handle, Known};
+use fw_types::{Guid, Handle, Known, MOST_HANDLES};
 use std::process::Abort;
 use std::test::Fail;
 
@@ -41,10 +41,10 @@ fn installing(rt: HostRuntime) -> Result<(), Fail> {
     Ok(())
 }
 
-/// A number is not used again, and a handle is gone with its last interface.
+/// A handle goes with its last interface, and its number is not given to another.
 #[test]
 fn removing(rt: HostRuntime) -> Result<(), Fail> {
-    let mut db = Db::new(rt.alloc(), 4096);
+    let mut db = Db::new(rt.alloc(), MOST_HANDLES);
     let owner = handle(&rt, 9);
     for number in 1..4 {
         db.install(None, guid(1), number * 16, Handle::firmware())?;
@@ -62,8 +62,8 @@ fn removing(rt: HostRuntime) -> Result<(), Fail> {
     ];
     for (number, protocol, answer) in removals {
         let removed = db.remove(handle(&rt, number), guid(protocol));
-        let told = removed.map(|r: Removed| (r.interface, r.owner.get(), r.place, r.gone));
-        assert_eq!(rt; told, answer);
+        let answered = removed.map(|r: Removed| (r.interface, r.owner.get(), r.place, r.gone));
+        assert_eq!(rt; answered, answer);
     }
     assert_eq!(rt; db.install(None, guid(1), 0, owner)?.get(), 4);
     assert_eq!(rt; db.is_live(1), true);
@@ -72,10 +72,10 @@ fn removing(rt: HostRuntime) -> Result<(), Fail> {
     Ok(())
 }
 
-/// What is told of handles and interfaces, also by a copy.
+/// What a database and its copy say of handles and interfaces.
 #[test]
 fn looking(rt: HostRuntime) -> Result<(), Fail> {
-    let mut db = Db::new(rt.alloc(), 4096);
+    let mut db = Db::new(rt.alloc(), MOST_HANDLES);
     let owner = handle(&rt, 2);
     for number in 1..5 {
         db.install(None, guid(number % 2), u64::from(number), owner)?;
@@ -125,11 +125,11 @@ fn looking(rt: HostRuntime) -> Result<(), Fail> {
     Ok(())
 }
 
-/// 4,096 handles, and 64 interfaces on one of them.
+/// As many handles as may be, and as many interfaces on one of them.
 #[test]
 fn limits(rt: HostRuntime) -> Result<(), Fail> {
-    let mut db = Db::new(rt.alloc(), 4096);
-    for _ in 0..4096 {
+    let mut db = Db::new(rt.alloc(), MOST_HANDLES);
+    for _ in 0..MOST_HANDLES {
         db.install(None, guid(0), 0, Handle::firmware())?;
     }
     let one_more = db.install(None, guid(0), 0, Handle::firmware());
@@ -137,7 +137,7 @@ fn limits(rt: HostRuntime) -> Result<(), Fail> {
         (one_more.err(), db.is_full()),
         (Some(DbRefusal::Full), true)
     );
-    let last = handle(&rt, 4096);
+    let last = handle(&rt, u64::from(MOST_HANDLES));
     for number in 1..64 {
         db.install(Some(last), guid(number), 0, Handle::firmware())?;
     }

@@ -1,4 +1,4 @@
--- Whose code stands at an address.
+-- Whose code is at an address.
 use Rattle.std.specs.Prelude.{ℕ, Option}
 use Rattle.world_model.specs.World.{Soft}
 use Rattle.world_model.specs.Images.{image_at}

@@ -1,4 +1,4 @@
--- Placing an image in the world (UEFI 2.8, 'EFI_BOOT_SERVICES.LoadImage()'): its file is checked, its
+-- Placing an image in the world (UEFI 2.8, 7.4: LoadImage): its file is checked, its
 -- laying is paid, and it is added, unless a limit is met.
 use Rattle.std.specs.Prelude.{◌≡◌, ℕ, ◌+◌, ◌/◌, nat_lt, List, Option, Some, None, Result, Ok, Err, if◌then◌else◌}
 use Rattle.fw_types.specs.declared.image.PeRefusal.{PeRefusal}
@@ -32,7 +32,7 @@ unless_refused None file w = accepted_answer file w
 abbrev pub place_answer : List ℕ → State → Result ℕ PlaceFault
 place_answer file w = unless_refused (refusal_of file) file w
 
--- ---- the state behind it
+-- ---- the state after it
 
 -- the image of a file: its bytes as they are laid at the next image address
 abbrev pub file_added : List ℕ → ℕ → Soft → Soft
@@ -41,8 +41,8 @@ file_added file device soft = image_added (laid file soft.next_image) (entry_of 
 abbrev pub added_unless_full : List ℕ → ℕ → State → State
 added_unless_full file device w = if is_image_full (size_of file) w.soft then w else on_soft (file_added file device) w
 
--- the price is spent, and the image added unless a limit is met; where too few units are left nothing is
--- spent
+-- The price is spent, and the image is added unless a limit is met. If too few units are left nothing is
+-- spent.
 abbrev pub accepted_placed : List ℕ → ℕ → State → State
 accepted_placed file device w =
     if nat_lt w.hard.units (laying_price file) then w
@@ -55,7 +55,7 @@ placed_unless None file device w = accepted_placed file device w
 abbrev pub placed : List ℕ → ℕ → State → State
 placed file device w = placed_unless (refusal_of file) file device w
 
--- ---- what the call says
+-- ---- the call
 
 -- the call gives this answer, unless memory ran out
 abbrev pub Gives : Result ℕ PlaceFault → Result ℕ PlaceFault → Type 0
@@ -65,7 +65,7 @@ Gives (Err Units) answer = answer ≡ Err Units
 Gives (Err Full) answer = answer ≡ Err Full
 Gives (Err OutOfMemory) answer = Unit {0}
 
--- something holds behind the call, unless memory ran out
+-- something holds after the call, unless memory ran out
 abbrev pub UnlessMemory : Result ℕ PlaceFault → Type 0 → Type 0
 UnlessMemory (Ok image) fact = fact
 UnlessMemory (Err (Refused refusal)) fact = fact

@@ -7,7 +7,7 @@ use thiserror::Error;
 /// Why a file was not placed.
 #[derive(Clone, Copy, Debug, PartialEq, Eq, Error)]
 pub enum PlaceFault {
-    /// The file is no EBC driver that is loaded.
+    /// The file is not accepted as an EBC driver.
     #[error("the file is refused")]
     Refused(PeRefusal),
     /// Fewer units are left than laying the image costs.

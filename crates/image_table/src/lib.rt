@@ -1,8 +1,7 @@
 //! The images that the firmware loads: their places in the world.
 //!
-//! `place` checks a file, pays for laying it, and adds its image to the world (UEFI 2.8,
-//! 'EFI_BOOT_SERVICES.LoadImage()'); its entry point is not called here. `owner_of` says whose code
-//! stands at an address.
+//! `place` checks a file, pays for laying it, and adds its image to the world (UEFI 2.8, 7.4:
+//! LoadImage); its entry point is not called here. `owner_of` says whose code is at an address.
 //!
 //! - `fault`: why a file was not placed.
 //! - `placing`: `place`.

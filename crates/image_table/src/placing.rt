@@ -11,23 +11,26 @@ use pe_image::{PeView, check, lay};
 /// The bytes of an image that one unit pays for.
 const BYTES_PER_UNIT: u64 = 64;
 
-/// Places the image of a file: checks the file, pays for laying it, one unit for each 64 bytes of the
-/// size of the image, rounded up, lays it at the next image address, and adds it to the world, with its
-/// loaded image block as the interface of a new handle, which is the answer (UEFI 2.8,
-/// 'EFI_BOOT_SERVICES.LoadImage()'). `device` is the handle of the device that the file comes from, or
-/// 0. The entry point of the image is not called.
+/// Places the image of a file: checks the file, pays for laying it, lays it at the next image
+/// address, and adds it to the world, with its loaded image block as the interface of a new handle,
+/// which is the answer (UEFI 2.8, 7.4: LoadImage). Laying costs one unit for each 64 bytes of the
+/// size of the image, rounded up. `device` is the handle of the device that the file comes from, or
+/// 0. The entry point of the image is not called. Nothing is copied before the file is accepted,
+/// the price is paid and no limit is met.
 ///
 /// # Errors
 ///
-/// In this order: `Refused` where the file is no EBC driver that is loaded, for the first rule that it
-/// breaks; `Units` where fewer units are left than the price; `Full` where a limit of the world is met,
-/// of handles, of images or of blocks; `OutOfMemory` where there is no memory. After `Refused` and
-/// `Units` the world is as before; after `Full` the price stays spent, and all else is as before.
+/// In this order: `Refused` if the file is not accepted as an EBC driver, for the first rule that
+/// it breaks; `Units` if fewer units are left than the price; `Full` if a limit of the world is
+/// met, of handles, of images or of blocks; `OutOfMemory` if there is no memory. After `Refused`
+/// and `Units` the world is as before; after `Full` the price stays spent, and all else is as
+/// before.
 pub fn place(w: &mut World, file: &[u8], device: u64) -> Result<Handle, PlaceFault>
     ensures answer { Gives result (place_answer file.now w.old.now) }
     ensures now { UnlessMemory result (w.new.now ≡ placed file.now device w.old.now) }
-    ensures kept { UnlessMemory result (w.new.kept ≡ w.old.kept) }
-    ensures entered { IfOk result (λ image. entry_of image w.new.now.soft ≡ Some (w.old.now.soft.next_image + entry_place file.now)) }
+    ensures marks { UnlessMemory result (w.new.marks ≡ w.old.marks) }
+    ensures entered { IfOk result (λ image. entry_of image w.new.now.soft ≡
+        Some (w.old.now.soft.next_image + entry_place file.now)) }
 {
     match check(file) {
         Err(refusal) => Err(PlaceFault::Refused(refusal)),
@@ -46,8 +49,9 @@ fn price_of(view: &PeView<'_>) -> u64
 fn pay_and_lay(w: &mut World, view: &PeView<'_>, device: u64) -> Result<Handle, PlaceFault>
     ensures answer { Gives result (unless_refused None view.now w.old.now) }
     ensures now { UnlessMemory result (w.new.now ≡ placed_unless None view.now device w.old.now) }
-    ensures kept { UnlessMemory result (w.new.kept ≡ w.old.kept) }
-    ensures entered { IfOk result (λ image. entry_of image w.new.now.soft ≡ Some (w.old.now.soft.next_image + entry_place view.now)) }
+    ensures marks { UnlessMemory result (w.new.marks ≡ w.old.marks) }
+    ensures entered { IfOk result (λ image. entry_of image w.new.now.soft ≡
+        Some (w.old.now.soft.next_image + entry_place view.now)) }
 {
     if !w.spend(price_of(view)) {
         return Err(PlaceFault::Units);
@@ -59,10 +63,14 @@ fn pay_and_lay(w: &mut World, view: &PeView<'_>, device: u64) -> Result<Handle, 
 fn lay_next(w: &mut World, view: &PeView<'_>, device: u64) -> Result<Handle, PlaceFault>
     ensures answer { Gives result (adding_answer view.now w.old.now.soft) }
     ensures now { UnlessMemory result (w.new.now ≡ added_unless_full view.now device w.old.now) }
-    ensures kept { UnlessMemory result (w.new.kept ≡ w.old.kept) }
-    ensures entered { IfOk result (λ image. entry_of image w.new.now.soft ≡ Some (w.old.now.soft.next_image + entry_place view.now)) }
+    ensures marks { UnlessMemory result (w.new.marks ≡ w.old.marks) }
+    ensures entered { IfOk result (λ image. entry_of image w.new.now.soft ≡
+        Some (w.old.now.soft.next_image + entry_place view.now)) }
 {
     w.is_kept();
+    if w.is_image_full(u64::from(view.size())) {
+        return Err(PlaceFault::Full);
+    }
     let bytes = lay(w.alloc(), view, w.next_image())?;
     match w.add_image(bytes, view.entry(), view.subsystem(), device) {
         Ok(image) => Ok(image),

@@ -1,16 +1,16 @@
 use crate::{PlaceFault, owner_of, place};
-use fw_types::{Handle, PeRefusal, Rows};
+use fw_types::{BOOT_SERVICE_DRIVER, Handle, MOST_FILE_BYTES, PeRefusal, RUNTIME_DRIVER, Rows};
 use fw_world::World;
 use guest_memory::GuestMem;
 use rom_builder::{DriverParts, pe_of};
 use std::alloc::Global;
 use std::test::Fail;
 
-/// `MOVIqw R7, 0` and `RET`. The image that the image writer makes of it has 1,024 bytes, and its entry
-/// point is 0x200 behind its beginning.
+/// `MOVIqw R7, 0` and `RET`. The image that the image writer makes of it has 1,024 bytes, and its
+/// entry point is at offset 0x200.
 const SMALLEST: &[u8] = b"\x77\x37\x00\x00\x04\x00";
 
-/// Where the size of image stands in the file.
+/// The offset of the size of image in the file.
 const SIZE_OF_IMAGE: usize = 0x90;
 
 /// The file of the smallest driver.
@@ -26,7 +26,7 @@ fn driver(alloc: Global, subsystem: u16) -> Result<Vec<u8>, Fail> {
 
 /// The smallest driver with another size of image.
 fn driver_of(alloc: Global, size: u32) -> Result<Vec<u8>, Fail> {
-    let mut file = driver(alloc, 11)?;
+    let mut file = driver(alloc, BOOT_SERVICE_DRIVER)?;
     for (slot, byte) in file.iter_mut().skip(SIZE_OF_IMAGE).zip(&size.to_le_bytes()) {
         *slot = *byte;
     }
@@ -41,7 +41,8 @@ fn number(answer: Result<Handle, PlaceFault>) -> Result<u64, PlaceFault> {
     }
 }
 
-/// A size of image, the units that are left, what placing answers, and the units that are left then.
+/// A size of image, the units that are left, what placing answers, and the units that are left
+/// then.
 #[test]
 fn a_unit_is_paid_for_each_64_bytes(rt: HostRuntime) -> Result<(), Fail> {
     let cases: [(u32, u32, Result<u64, PlaceFault>, u64); 7] = [
@@ -88,17 +89,17 @@ fn a_refused_file_changes_nothing(rt: HostRuntime) -> Result<(), Fail> {
 
 /// A driver of boot services with no device, and a runtime driver of the device with handle 7.
 #[test]
-fn images_are_placed_one_behind_the_other(rt: HostRuntime) -> Result<(), Fail> {
+fn images_are_placed_one_after_the_other(rt: HostRuntime) -> Result<(), Fail> {
     let mut world = World::new(rt.alloc())?;
     world.begin_command(100);
-    let file = driver(rt.alloc(), 11)?;
+    let file = driver(rt.alloc(), BOOT_SERVICE_DRIVER)?;
     assert_eq!(rt; number(place(&mut world, file.as_slice(), 0)), Ok(3));
-    let file = driver(rt.alloc(), 12)?;
+    let file = driver(rt.alloc(), RUNTIME_DRIVER)?;
     assert_eq!(rt; number(place(&mut world, file.as_slice(), 7)), Ok(4));
     assert_eq!(rt; world.left(), 68);
     assert_eq!(rt; world.entry_of(3), Some(0x200_0200));
     assert_eq!(rt; world.entry_of(4), Some(0x201_0200));
-    // An address, how many bytes stand there, and their number.
+    // An address, a number of bytes, and the number that they have.
     let numbers: [(u64, u8, Option<u64>); 11] = [
         // the code
         (0x200_0200, 8, Some(0x4_0000_3777)),
@@ -126,7 +127,7 @@ fn images_are_placed_one_behind_the_other(rt: HostRuntime) -> Result<(), Fail> {
 fn an_address_has_an_owner(rt: HostRuntime) -> Result<(), Fail> {
     let mut world = World::new(rt.alloc())?;
     world.begin_command(100);
-    let file = driver(rt.alloc(), 11)?;
+    let file = driver(rt.alloc(), BOOT_SERVICE_DRIVER)?;
     assert_eq!(rt; number(place(&mut world, file.as_slice(), 0)), Ok(3));
     assert_eq!(rt; number(place(&mut world, file.as_slice(), 0)), Ok(4));
     let cases: [(u64, u64); 9] = [
@@ -154,7 +155,7 @@ fn an_address_has_an_owner(rt: HostRuntime) -> Result<(), Fail> {
 /// Four images of 16 MiB are all that fit. The price of the fifth, 262,144 units, stays spent.
 #[test]
 fn a_limit_leaves_the_price_spent(rt: HostRuntime) -> Result<(), Fail> {
-    let file = driver_of(rt.alloc(), 16_777_216)?;
+    let file = driver_of(rt.alloc(), MOST_FILE_BYTES as u32)?;
     let mut world = World::new(rt.alloc())?;
     world.begin_command(2_000_000);
     let cases: [(Result<u64, PlaceFault>, u64); 5] = [

@@ -1,6 +1,6 @@
 pub mod Conditions
-pub mod CountingDown
-pub mod Lines
-pub mod Ranges
-pub mod Said
-pub mod Telling
+pub mod AllowedChanges
+pub mod BlockContents
+pub mod InstallPairs
+pub mod ServiceEnds
+pub mod HandleList

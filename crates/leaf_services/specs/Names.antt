@@ -3,7 +3,7 @@ use Rattle.std.specs.Prelude.{ℕ, List, map}
 use Rattle.std.specs.List.{flat_map}
 use Rattle.uuid.specs.Parts.{swap_fields}
 
--- their guest form, one behind the other
+-- their guest form, one after the other
 abbrev pub names_alone : List (List ℕ × ℕ × ℕ) → List ℕ
 names_alone protocols = flat_map (λ (listed : List ℕ × ℕ × ℕ). swap_fields listed.0) protocols
 

@@ -1,23 +1,24 @@
 //! The table of boot services, and how a service goes.
-ghost use Rattle.std.specs.Prelude.{◌≡◌, ◌≤◌, ◌%◌, ◌^◌, IfOk, OnOk, true};
+ghost use Rattle.std.specs.Prelude.{◌≡◌, ◌≤◌, ◌%◌, ◌^◌, IfOk, OnOk, false, true};
 ghost use Rattle.service_thunks.specs.Arguments.{most_arguments};
 ghost use Rattle.service_model.specs.Allowed.{is_allowed};
-ghost use Rattle.service_model.specs.BootServices.{charged, ended, is_boot_service, pool_price, priced_behind, priced_first, row, served, with_arguments};
+ghost use Rattle.service_model.specs.Untouched.{goes_on};
+ghost use Rattle.service_model.specs.BootServices.{end_of_row, is_boot_service, pool_price, priced_after, priced_first, row, served, with_arguments, with_price};
 
-use crate::changes::commit;
-use crate::many::{first_pair, install_multiple};
-use crate::protocols::{
+use crate::changes::apply;
+use fw_types::{Cause, MOST_BYTES, OutOfMemory};
+use fw_world::World;
+use service_model::laws::{rows_are_allowed, services_end};
+use service_model::{Caller, Change, Served, Stop};
+use service_rows::many::{first_pair, install_multiple};
+use service_rows::protocols::{
     close, handle_protocol, install, locate_handle, locate_handle_buffer, locate_protocol,
     open_protocol, open_protocol_information, protocols_per_handle, uninstall,
 };
-use crate::rows::{
-    MOST_BYTES, allocate_pool, copy_mem, free_pool, raise_tpl, restore_tpl, set_mem, stall,
+use service_rows::rows::{
+    allocate_pool, copy_mem, free_pool, raise_tpl, restore_tpl, set_mem, stall, unbuilt,
 };
-use crate::words::slots;
-use fw_types::{Cause, OutOfMemory, Status};
-use fw_world::World;
-use service_model::laws::rows_are_allowed;
-use service_model::{Caller, Change, Served, Stop};
+use service_rows::words::slots;
 use service_thunks::Service;
 
 // ---- the table, column by column
@@ -43,7 +44,16 @@ fn slots_of(s: Service) -> u8
         Service::Install | Service::CloseProtocol | Service::OpenProtocolInformation => 4,
         Service::LocateHandle | Service::LocateHandleBuffer => 5,
         Service::OpenProtocol => 6,
-        _ => 0,
+        Service::ConnectController
+        | Service::DisconnectController
+        | Service::UninstallMultiple
+        | Service::MemRead
+        | Service::MemWrite
+        | Service::PciRead
+        | Service::PciWrite
+        | Service::GetLocation
+        | Service::Attributes
+        | Service::Unbuilt => 0,
     }
 }
 
@@ -77,7 +87,19 @@ fn price_of(s: Service, a: &[u64; 16]) -> u64
         Service::AllocatePool => pool_price(a[1]),
         Service::CopyMem => 1 + a[2].div_ceil(8),
         Service::SetMem => 1 + a[1].div_ceil(8),
-        _ => 1,
+        Service::RaiseTpl
+        | Service::RestoreTpl
+        | Service::Stall
+        | Service::ConnectController
+        | Service::DisconnectController
+        | Service::UninstallMultiple
+        | Service::MemRead
+        | Service::MemWrite
+        | Service::PciRead
+        | Service::PciWrite
+        | Service::GetLocation
+        | Service::Attributes
+        | Service::Unbuilt => 1,
     }
 }
 
@@ -106,8 +128,8 @@ fn low32(value: u64) -> u32
     (value % (1 << 32)) as u32
 }
 
-/// What a service does with these arguments.
-fn said_by(s: Service, c: &Caller, a: &[u64; 16], w: &World) -> Result<Change, Stop>
+/// The change that a service ends with for these arguments, or why it stops.
+fn change_for(s: Service, c: &Caller, a: &[u64; 16], w: &World) -> Result<Change, Stop>
     ensures { result ≡ (row s).rest c.now a.now w.now.now }
 {
     match s {
@@ -129,98 +151,118 @@ fn said_by(s: Service, c: &Caller, a: &[u64; 16], w: &World) -> Result<Change, S
         Service::InstallMultiple => install_multiple(c.image, a[0], first_pair(c.sp), w),
         Service::CopyMem => copy_mem(a[0], a[1], a[2], w),
         Service::SetMem => set_mem(a[0], a[1], low8(a[2]), w),
-        _ => Err(Stop::Status(Status::UNSUPPORTED)),
+        Service::ConnectController
+        | Service::DisconnectController
+        | Service::UninstallMultiple
+        | Service::MemRead
+        | Service::MemWrite
+        | Service::PciRead
+        | Service::PciWrite
+        | Service::GetLocation
+        | Service::Attributes
+        | Service::Unbuilt => unbuilt(w),
     }
 }
 
-/// The same, which can be done.
-fn planned(s: Service, c: &Caller, a: &[u64; 16], w: &World) -> Result<Change, Stop>
+/// The same change, which can be applied.
+fn allowed_change(s: Service, c: &Caller, a: &[u64; 16], w: &World) -> Result<Change, Stop>
     ensures value { result ≡ (row s).rest c.now a.now w.now.now }
     ensures allowed { IfOk result (λ change. is_allowed change w.now.now ≡ true) }
 {
     rows_are_allowed();
-    said_by(s, c, a, w)
+    change_for(s, c, a, w)
 }
 
 // ---- how a service goes
 
-/// Makes the change that a row says, or leaves all as it is.
-fn end(said: Result<Change, Stop>, w: &mut World) -> Result<Served, OutOfMemory>
-    requires { IfOk said (λ change. is_allowed change w.old.now ≡ true) }
-    ensures now { IfOk result (λ served. ended w.old.now said ≡ (served, w.new.now)) }
-    ensures kept { OnOk result (w.new.kept ≡ w.old.kept) }
+/// Applies the change that a row ends with, or leaves all as it is.
+fn end_row(change: Result<Change, Stop>, w: &mut World) -> Result<Served, OutOfMemory>
+    requires { IfOk change (λ change. is_allowed change w.old.now ≡ true) }
+    ensures now { IfOk result (λ served. end_of_row w.old.now change ≡ (served, w.new.now)) }
+    ensures marks { OnOk result (w.new.marks ≡ w.old.marks) }
 {
-    match said {
-        Ok(change) => commit(change, w),
+    match change {
+        Ok(change) => apply(change, w),
         Err(Stop::Status(status)) => Ok(Served::Value(status.0)),
         Err(Stop::Trap(cause)) => Ok(Served::Trap(cause)),
     }
 }
 
-/// Reads the arguments and does the row's work.
+/// Reads the arguments of a service, and does its row's work.
 fn work(s: Service, c: &Caller, w: &World) -> Result<Change, Stop>
     ensures value { result ≡ with_arguments (row s) c.now w.now.now }
     ensures allowed { IfOk result (λ change. is_allowed change w.now.now ≡ true) }
 {
     let a = slots(slots_of(s), c.sp, w)?;
-    planned(s, c, &a, w)
+    allowed_change(s, c, &a, w)
 }
 
 /// A service whose price names no argument.
 fn serve_priced_first(w: &mut World, s: Service, c: &Caller) -> Result<Served, OutOfMemory>
     ensures now { IfOk result (λ answer. priced_first (row s) c.now w.old.now ≡ (answer, w.new.now)) }
-    ensures kept { OnOk result (w.new.kept ≡ w.old.kept) }
+    ensures marks { OnOk result (w.new.marks ≡ w.old.marks) }
 {
     if !w.spend(price_of(s, &[0; 16])) {
         return Ok(Served::Trap(Cause::Budget));
     }
-    let said = work(s, c, w);
-    end(said, w)
+    let change = work(s, c, w);
+    end_row(change, w)
 }
 
-/// A service with these arguments, by which it is priced.
+/// A service with these arguments, which its price names.
 fn serve_with(w: &mut World, s: Service, c: &Caller, a: &[u64; 16]) -> Result<Served, OutOfMemory>
-    ensures now { IfOk result (λ answer. charged ((row s).price a.now) ((row s).rest c.now a.now) w.old.now ≡ (answer, w.new.now)) }
-    ensures kept { OnOk result (w.new.kept ≡ w.old.kept) }
+    ensures now { IfOk result (λ answer. with_price ((row s).price a.now) ((row s).rest c.now a.now) w.old.now ≡ (answer, w.new.now)) }
+    ensures marks { OnOk result (w.new.marks ≡ w.old.marks) }
 {
     if !w.spend(price_of(s, a)) {
         return Ok(Served::Trap(Cause::Budget));
     }
-    let said = planned(s, c, a, w);
-    end(said, w)
+    let change = allowed_change(s, c, a, w);
+    end_row(change, w)
 }
 
 /// A service whose price names an argument.
-fn serve_priced_behind(w: &mut World, s: Service, c: &Caller) -> Result<Served, OutOfMemory>
-    ensures now { IfOk result (λ answer. priced_behind (row s) c.now w.old.now ≡ (answer, w.new.now)) }
-    ensures kept { OnOk result (w.new.kept ≡ w.old.kept) }
+fn serve_priced_after(w: &mut World, s: Service, c: &Caller) -> Result<Served, OutOfMemory>
+    ensures now { IfOk result (λ answer. priced_after (row s) c.now w.old.now ≡ (answer, w.new.now)) }
+    ensures marks { OnOk result (w.new.marks ≡ w.old.marks) }
 {
     match slots(slots_of(s), c.sp, w) {
         Ok(a) => serve_with(w, s, c, &a),
-        Err(stop) => end(Err(stop), w),
+        Err(stop) => end_row(Err(stop), w),
+    }
+}
+
+/// Serves a call of a boot service.
+fn serve_row(w: &mut World, s: Service, c: &Caller) -> Result<Served, OutOfMemory>
+    ensures now { IfOk result (λ answer. served s c.now w.old.now ≡ (answer, w.new.now)) }
+    ensures marks { OnOk result (w.new.marks ≡ w.old.marks) }
+{
+    if is_by_argument(s) {
+        serve_priced_after(w, s, c)
+    } else {
+        serve_priced_first(w, s, c)
     }
 }
 
 /// Serves a call of a boot service (UEFI 2.8, chapter 7 'Services - Boot Services'). `s` is one of the
-/// boot services, or `Unbuilt`; the arguments stand on the caller's stack, 8 bytes each from `c.sp` on.
+/// boot services, or `Unbuilt`; the arguments are on the caller's stack, 8 bytes each from `c.sp` on.
 ///
-/// First the price is spent, where it is not more than the units that are left: else the answer is
-/// `Trap` with `Budget`, and nothing is spent. Then the arguments are read, and where one can't be read
-/// the answer is `Trap` with `Memory`; where the price names an argument, they are read before it, and
-/// then nothing is spent. Then come the statuses of the service in their order, and traps with `Memory`
-/// for bytes that it can't read or write. A service that is not built answers UNSUPPORTED.
+/// First the price is spent if it is not more than the units that are left; else the answer is `Trap`
+/// with `Budget`, and nothing is spent. Then the arguments are read, and if one can't be read the answer
+/// is `Trap` with `Memory`. If the price names an argument, they are read before it, and then nothing is
+/// spent. Then come the statuses of the service in their order, and traps with `Memory` for bytes that it
+/// can't read or write. A service that is not built answers UNSUPPORTED. No service that is built answers
+/// `Again`.
 ///
 /// # Errors
 ///
-/// `OutOfMemory` where there is no memory.
+/// `OutOfMemory` if there is no memory.
 pub fn serve(w: &mut World, s: Service, c: &Caller) -> Result<Served, OutOfMemory>
     requires { is_boot_service s ≡ true }
     ensures now { IfOk result (λ answer. served s c.now w.old.now ≡ (answer, w.new.now)) }
-    ensures kept { OnOk result (w.new.kept ≡ w.old.kept) }
+    ensures marks { OnOk result (w.new.marks ≡ w.old.marks) }
+    ensures ends { IfOk result (λ answer. goes_on answer ≡ false) }
 {
-    if is_by_argument(s) {
-        serve_priced_behind(w, s, c)
-    } else {
-        serve_priced_first(w, s, c)
-    }
+    services_end();
+    serve_row(w, s, c)
 }

@@ -4,19 +4,20 @@ ghost use Rattle.byteorder.specs.Endian.{little_bytes};
 ghost use Rattle.uuid.specs.Parts.{swap_fields};
 ghost use Rattle.guest_memory.specs.GuestMemory.{is_writable_range};
 ghost use Rattle.service_model.specs.Allowed.{is_allowed};
-ghost use Rattle.service_model.specs.Changes.{both_stored, committed};
-ghost use Rattle.service_model.specs.Contents.{bytes_told, count_told, names_told, numbers_told, places_told, record_told, records_told};
+ghost use Rattle.service_model.specs.Changes.{both_stored, applied};
+ghost use Rattle.service_model.specs.Contents.{contents_bytes, contents_count, names_bytes, number_bytes, name_places, record_bytes, records_bytes};
 ghost use Rattle.leaf_services.specs.Names.{names_alone, names_in};
 
-use crate::storing::{allot, answered, store};
-use fw_types::{Guid, Handle, OutOfMemory, Status};
+use crate::storing::{allot, store, with_status};
+use fw_types::{Guid, Handle, MOST_INTERFACES, OutOfMemory, Status};
 use fw_world::World;
+use guest_memory::address_map::BLOCK_END;
 use open_records::Rec;
 use service_model::laws::puts_leave_writable;
 use service_model::{Change, Contents, Served};
 use std::alloc::Global;
 
-/// Puts a number in 8 bytes behind others.
+/// Appends a number in 8 bytes.
 fn add_number(bytes: &mut Vec<u8>, number: u64) -> Result<(), OutOfMemory>
     ensures { OnOk result (bytes.new.items ≡ bytes.old.items ++ little_bytes 8 number) }
 {
@@ -24,7 +25,7 @@ fn add_number(bytes: &mut Vec<u8>, number: u64) -> Result<(), OutOfMemory>
     Ok(())
 }
 
-/// Puts a number in 4 bytes behind others.
+/// Appends a number in 4 bytes.
 fn add_half(bytes: &mut Vec<u8>, number: u32) -> Result<(), OutOfMemory>
     ensures { OnOk result (bytes.new.items ≡ bytes.old.items ++ little_bytes 4 number) }
 {
@@ -33,8 +34,8 @@ fn add_half(bytes: &mut Vec<u8>, number: u32) -> Result<(), OutOfMemory>
 }
 
 /// Handles in 8 bytes each.
-fn tell_handles(alloc: Global, handles: &[Handle]) -> Result<Vec<u8>, OutOfMemory>
-    ensures bytes { IfOk result (λ bytes. bytes.items ≡ numbers_told handles.now) }
+fn handle_bytes(alloc: Global, handles: &[Handle]) -> Result<Vec<u8>, OutOfMemory>
+    ensures bytes { IfOk result (λ bytes. bytes.items ≡ number_bytes handles.now) }
     ensures size { IfOk result (λ bytes. length bytes.items ≡ 8 * length handles.now) }
 {
     let mut bytes = Vec::new(alloc);
@@ -44,9 +45,9 @@ fn tell_handles(alloc: Global, handles: &[Handle]) -> Result<Vec<u8>, OutOfMemor
     Ok(bytes)
 }
 
-/// Puts a record in 24 bytes behind others.
+/// Appends a record in 24 bytes.
 fn add_record(bytes: &mut Vec<u8>, rec: &Rec) -> Result<(), OutOfMemory>
-    ensures { OnOk result (bytes.new.items ≡ bytes.old.items ++ record_told rec.now) }
+    ensures { OnOk result (bytes.new.items ≡ bytes.old.items ++ record_bytes rec.now) }
 {
     add_number(bytes, rec.agent)?;
     add_number(bytes, rec.controller)?;
@@ -55,8 +56,8 @@ fn add_record(bytes: &mut Vec<u8>, rec: &Rec) -> Result<(), OutOfMemory>
 }
 
 /// Records in 24 bytes each.
-fn tell_records(alloc: Global, records: &[Rec]) -> Result<Vec<u8>, OutOfMemory>
-    ensures { IfOk result (λ bytes. bytes.items ≡ records_told records.now) }
+fn records_to_bytes(alloc: Global, records: &[Rec]) -> Result<Vec<u8>, OutOfMemory>
+    ensures { IfOk result (λ bytes. bytes.items ≡ records_bytes records.now) }
 {
     let mut bytes = Vec::new(alloc);
     for rec in records {
@@ -65,11 +66,11 @@ fn tell_records(alloc: Global, records: &[Rec]) -> Result<Vec<u8>, OutOfMemory>
     Ok(bytes)
 }
 
-/// Pointers to so many GUIDs that stand behind them, in a block at an address.
-fn tell_places(alloc: Global, at: u64, n: u64) -> Result<Vec<u8>, OutOfMemory>
-    requires few { n ≤ 64 }
-    requires low { at ≤ 0x4000_0000_0000_0000 }
-    ensures { IfOk result (λ bytes. bytes.items ≡ numbers_told (places_told at n)) }
+/// Pointers to so many GUIDs that lie after them, in a block at an address.
+fn place_bytes(alloc: Global, at: u64, n: u64) -> Result<Vec<u8>, OutOfMemory>
+    requires few { n ≤ MOST_INTERFACES }
+    requires low { at ≤ BLOCK_END }
+    ensures { IfOk result (λ bytes. bytes.items ≡ number_bytes (name_places at n)) }
 {
     let mut bytes = Vec::new(alloc);
     for i in 0..n {
@@ -78,7 +79,7 @@ fn tell_places(alloc: Global, at: u64, n: u64) -> Result<Vec<u8>, OutOfMemory>
     Ok(bytes)
 }
 
-/// Puts a GUID in 16 bytes behind others.
+/// Appends a GUID in 16 bytes.
 fn add_name(bytes: &mut Vec<u8>, name: &Guid) -> Result<(), OutOfMemory>
     ensures { OnOk result (bytes.new.items ≡ bytes.old.items ++ swap_fields name.now) }
 {
@@ -86,7 +87,7 @@ fn add_name(bytes: &mut Vec<u8>, name: &Guid) -> Result<(), OutOfMemory>
     Ok(())
 }
 
-/// Puts the GUIDs of protocols behind other bytes.
+/// Appends the GUIDs of protocols.
 fn add_names(bytes: &mut Vec<u8>, protocols: &[(Guid, u64, Handle)]) -> Result<(), OutOfMemory>
     ensures { OnOk result (bytes.new.items ≡ bytes.old.items ++ names_alone protocols.now) }
 {
@@ -97,49 +98,49 @@ fn add_names(bytes: &mut Vec<u8>, protocols: &[(Guid, u64, Handle)]) -> Result<(
 }
 
 /// Pointers to the GUIDs of protocols, and then the GUIDs, for a block at an address.
-#[tactic(auto, using(crate::proofs::Telling::names_told_at))]
-fn tell_names(
+#[tactic(auto, using(crate::proofs::BlockContents::names_at))]
+fn name_bytes(
     alloc: Global,
     at: u64,
     protocols: &[(Guid, u64, Handle)],
 ) -> Result<Vec<u8>, OutOfMemory>
-    requires few { length protocols.now ≤ 64 }
-    requires low { at ≤ 0x4000_0000_0000_0000 }
-    ensures { IfOk result (λ bytes. bytes.items ≡ names_told at (names_in protocols.now)) }
+    requires few { length protocols.now ≤ MOST_INTERFACES }
+    requires low { at ≤ BLOCK_END }
+    ensures { IfOk result (λ bytes. bytes.items ≡ names_bytes at (names_in protocols.now)) }
 {
-    let mut bytes = tell_places(alloc, at, protocols.len() as u64)?;
+    let mut bytes = place_bytes(alloc, at, protocols.len() as u64)?;
     add_names(&mut bytes, protocols)?;
     Ok(bytes)
 }
 
-/// The bytes of a block with a handle's protocols, for the next address.
-fn tell_protocols(handle: Handle, w: &World) -> Result<(Vec<u8>, u64), OutOfMemory>
-    ensures bytes { IfOk result (λ told. told.0.items ≡ bytes_told (Contents.Protocols handle) w.now.now) }
-    ensures count { IfOk result (λ told. told.1 ≡ count_told (Contents.Protocols handle) w.now.now) }
+/// The bytes of a block with a handle's protocols, for the next address, and how many they are.
+fn protocol_bytes(handle: Handle, w: &World) -> Result<(Vec<u8>, u64), OutOfMemory>
+    ensures bytes { IfOk result (λ block. block.0.items ≡ contents_bytes (Contents.Protocols handle) w.now.now) }
+    ensures count { IfOk result (λ block. block.1 ≡ contents_count (Contents.Protocols handle) w.now.now) }
 {
     w.is_kept();
     let protocols = w.db().protocols_of(handle)?;
-    let bytes = tell_names(w.alloc(), w.next_block(), &protocols)?;
+    let bytes = name_bytes(w.alloc(), w.next_block(), &protocols)?;
     Ok((bytes, protocols.len() as u64))
 }
 
-/// What a block will hold, and how many items.
-fn tell(contents: Contents, w: &World) -> Result<(Vec<u8>, u64), OutOfMemory>
-    ensures bytes { IfOk result (λ told. told.0.items ≡ bytes_told contents w.now.now) }
-    ensures count { IfOk result (λ told. told.1 ≡ count_told contents w.now.now) }
+/// The bytes of a block, and how many items they are.
+fn block_bytes(contents: Contents, w: &World) -> Result<(Vec<u8>, u64), OutOfMemory>
+    ensures bytes { IfOk result (λ block. block.0.items ≡ contents_bytes contents w.now.now) }
+    ensures count { IfOk result (λ block. block.1 ≡ contents_count contents w.now.now) }
 {
     match contents {
         Contents::Handles(name) => {
             let handles = w.db().handles_with(name)?;
-            let bytes = tell_handles(w.alloc(), &handles)?;
+            let bytes = handle_bytes(w.alloc(), &handles)?;
             Ok((bytes, handles.len() as u64))
         }
         Contents::Opens { handle, guid } => {
             let records = w.entries().list(handle, guid)?;
-            let bytes = tell_records(w.alloc(), &records)?;
+            let bytes = records_to_bytes(w.alloc(), &records)?;
             Ok((bytes, records.len() as u64))
         }
-        Contents::Protocols(handle) => tell_protocols(handle, w),
+        Contents::Protocols(handle) => protocol_bytes(handle, w),
     }
 }
 
@@ -155,7 +156,7 @@ fn store_both(
     requires buffer { is_writable_range w.old.now.soft.memory buffer 8 ≡ true }
     requires count { is_writable_range w.old.now.soft.memory count 8 ≡ true }
     ensures now { OnOk result (w.new.now ≡ both_stored count_first buffer at count n w.old.now) }
-    ensures kept { OnOk result (w.new.kept ≡ w.old.kept) }
+    ensures marks { OnOk result (w.new.marks ≡ w.old.marks) }
 {
     puts_leave_writable();
     if count_first {
@@ -176,15 +177,15 @@ pub fn return_block(
     w: &mut World,
 ) -> Result<Served, OutOfMemory>
     requires { is_allowed (Change.Block contents buffer count count_first) w.old.now ≡ true }
-    ensures now { IfOk result (λ served. committed (Change.Block contents buffer count count_first) w.old.now ≡ (served, w.new.now)) }
-    ensures kept { OnOk result (w.new.kept ≡ w.old.kept) }
+    ensures now { IfOk result (λ served. applied (Change.Block contents buffer count count_first) w.old.now ≡ (served, w.new.now)) }
+    ensures marks { OnOk result (w.new.marks ≡ w.old.marks) }
 {
-    let (bytes, n) = tell(contents, w)?;
+    let (bytes, n) = block_bytes(contents, w)?;
     match allot(bytes, w)? {
-        None => Ok(answered(Status::OUT_OF_RESOURCES)),
+        None => Ok(with_status(Status::OUT_OF_RESOURCES)),
         Some(at) => {
             store_both(count_first, buffer, at, count, n, w)?;
-            Ok(answered(Status::SUCCESS))
+            Ok(with_status(Status::SUCCESS))
         }
     }
 }
@@ -197,13 +198,13 @@ pub fn store_handles(
     w: &mut World,
 ) -> Result<Served, OutOfMemory>
     requires { is_allowed (Change.Handles guid size buffer) w.old.now ≡ true }
-    ensures now { IfOk result (λ served. committed (Change.Handles guid size buffer) w.old.now ≡ (served, w.new.now)) }
-    ensures kept { OnOk result (w.new.kept ≡ w.old.kept) }
+    ensures now { IfOk result (λ served. applied (Change.Handles guid size buffer) w.old.now ≡ (served, w.new.now)) }
+    ensures marks { OnOk result (w.new.marks ≡ w.old.marks) }
 {
     puts_leave_writable();
     let handles = w.db().handles_with(guid)?;
-    let bytes = tell_handles(w.alloc(), &handles)?;
+    let bytes = handle_bytes(w.alloc(), &handles)?;
     store(size, 8 * handles.len() as u64, w)?;
     w.put(buffer, &bytes)?;
-    Ok(answered(Status::SUCCESS))
+    Ok(with_status(Status::SUCCESS))
 }

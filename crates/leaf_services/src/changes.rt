@@ -1,22 +1,23 @@
-//! Changes of the world: nothing else in this crate changes it, but for the price of a service.
+//! Changes of the world. Except for the price of a service, nothing else in this crate changes it.
 ghost use Rattle.std.specs.Prelude.{◌≡◌, IfOk, OnOk, length, replicate, true};
 ghost use Rattle.guest_memory.specs.GuestMemory.{bytes_of, is_readable, is_writable_range};
 ghost use Rattle.service_model.specs.Allowed.{can_store, is_allowed};
-ghost use Rattle.service_model.specs.Changes.{committed};
+ghost use Rattle.service_model.specs.Changes.{applied};
 
 use crate::buffers::{return_block, store_handles};
 use crate::interfaces::{enter, install, install_many, leave, uninstall};
-use crate::storing::{allot, answered, store, store_if};
+use crate::reentries::connect;
+use crate::storing::{allot, store, store_if, with_status};
 use fw_types::{OutOfMemory, Status};
 use fw_world::{World, WorldFault};
 use guest_memory::SegKind;
-use service_model::{Change, Served};
+use service_model::{Change, Reentry, Served};
 use std::alloc::Global;
 
 /// Sets the task priority level, and answers a number.
 fn set_level(tpl: u8, answer: u64, w: &mut World) -> Result<Served, OutOfMemory>
-    ensures now { IfOk result (λ served. committed (Change.SetTpl tpl answer) w.old.now ≡ (served, w.new.now)) }
-    ensures kept { OnOk result (w.new.kept ≡ w.old.kept) }
+    ensures now { IfOk result (λ served. applied (Change.SetTpl tpl answer) w.old.now ≡ (served, w.new.now)) }
+    ensures marks { OnOk result (w.new.marks ≡ w.old.marks) }
 {
     w.set_tpl(tpl)?;
     Ok(Served::Value(answer))
@@ -31,36 +32,36 @@ fn zeros(alloc: Global, size: u64) -> Result<Vec<u8>, OutOfMemory>
     Ok(bytes)
 }
 
-/// Makes a block of the pool of zeros, and stores its address in 8 bytes, which can be written.
+/// Makes a block of zeros in the pool, and stores its address in 8 bytes, which can be written.
 fn make_block(size: u64, out: u64, w: &mut World) -> Result<Served, OutOfMemory>
     requires { is_writable_range w.old.now.soft.memory out 8 ≡ true }
-    ensures now { IfOk result (λ served. committed (Change.Allot size out) w.old.now ≡ (served, w.new.now)) }
-    ensures kept { OnOk result (w.new.kept ≡ w.old.kept) }
+    ensures now { IfOk result (λ served. applied (Change.Allot size out) w.old.now ≡ (served, w.new.now)) }
+    ensures marks { OnOk result (w.new.marks ≡ w.old.marks) }
 {
     let bytes = zeros(w.alloc(), size)?;
     match allot(bytes, w)? {
-        None => Ok(answered(Status::OUT_OF_RESOURCES)),
+        None => Ok(with_status(Status::OUT_OF_RESOURCES)),
         Some(at) => {
             store(out, at, w)?;
-            Ok(answered(Status::SUCCESS))
+            Ok(with_status(Status::SUCCESS))
         }
     }
 }
 
-/// Takes out the block of the pool that begins at an address, where one does.
+/// Frees the block of the pool that begins at an address, if one does.
 fn free_block(at: u64, w: &mut World) -> Result<Served, OutOfMemory>
-    ensures now { IfOk result (λ served. committed (Change.Free at) w.old.now ≡ (served, w.new.now)) }
-    ensures kept { OnOk result (w.new.kept ≡ w.old.kept) }
+    ensures now { IfOk result (λ served. applied (Change.Free at) w.old.now ≡ (served, w.new.now)) }
+    ensures marks { OnOk result (w.new.marks ≡ w.old.marks) }
 {
     match w.free(at, SegKind::Pool) {
-        Ok(()) => Ok(answered(Status::SUCCESS)),
+        Ok(()) => Ok(with_status(Status::SUCCESS)),
         Err(WorldFault::OutOfMemory) => Err(OutOfMemory),
-        Err(_) => Ok(answered(Status::INVALID_PARAMETER)),
+        Err(_) => Ok(with_status(Status::INVALID_PARAMETER)),
     }
 }
 
 /// A copy of bytes, which can be read.
-fn copied(from: u64, n: u64, w: &World) -> Result<Vec<u8>, OutOfMemory>
+fn copy_of(from: u64, n: u64, w: &World) -> Result<Vec<u8>, OutOfMemory>
     requires { is_readable w.now.now.soft.memory from n ≡ true }
     ensures bytes { IfOk result (λ copy. copy.items ≡ bytes_of w.now.now.soft.memory from n) }
     ensures size { IfOk result (λ copy. length copy.items ≡ n) }
@@ -68,28 +69,28 @@ fn copied(from: u64, n: u64, w: &World) -> Result<Vec<u8>, OutOfMemory>
     Ok(Vec::from_slice(w.alloc(), w.bytes(from, n))?)
 }
 
-/// Copies bytes, which can be read and written, as if through a copy.
+/// Copies bytes, which can be read and written, as if through a buffer apart from both.
 fn copy_bytes(to: u64, from: u64, n: u64, w: &mut World) -> Result<Served, OutOfMemory>
     requires { is_allowed (Change.Copy to from n) w.old.now ≡ true }
-    ensures now { IfOk result (λ served. committed (Change.Copy to from n) w.old.now ≡ (served, w.new.now)) }
-    ensures kept { OnOk result (w.new.kept ≡ w.old.kept) }
+    ensures now { IfOk result (λ served. applied (Change.Copy to from n) w.old.now ≡ (served, w.new.now)) }
+    ensures marks { OnOk result (w.new.marks ≡ w.old.marks) }
 {
-    let bytes = copied(from, n, w)?;
+    let bytes = copy_of(from, n, w)?;
     w.put(to, &bytes)?;
-    Ok(answered(Status::SUCCESS))
+    Ok(with_status(Status::SUCCESS))
 }
 
-/// Sets bytes, which can be written, all to one.
+/// Sets bytes, which can be written, all to one value.
 fn fill_bytes(to: u64, n: u64, byte: u8, w: &mut World) -> Result<Served, OutOfMemory>
     requires { is_writable_range w.old.now.soft.memory to n ≡ true }
-    ensures now { IfOk result (λ served. committed (Change.Fill to n byte) w.old.now ≡ (served, w.new.now)) }
-    ensures kept { OnOk result (w.new.kept ≡ w.old.kept) }
+    ensures now { IfOk result (λ served. applied (Change.Fill to n byte) w.old.now ≡ (served, w.new.now)) }
+    ensures marks { OnOk result (w.new.marks ≡ w.old.marks) }
 {
     w.fill(to, n, byte)?;
-    Ok(answered(Status::SUCCESS))
+    Ok(with_status(Status::SUCCESS))
 }
 
-/// Stores a number where a place is given for it, which can be written, and answers a status.
+/// Stores a number if a place is given for it, which can be written, and answers a status.
 fn store_value(
     out: Option<u64>,
     value: u64,
@@ -97,22 +98,22 @@ fn store_value(
     w: &mut World,
 ) -> Result<Served, OutOfMemory>
     requires { can_store out w.old.now ≡ true }
-    ensures now { IfOk result (λ served. committed (Change.Store out value status) w.old.now ≡ (served, w.new.now)) }
-    ensures kept { OnOk result (w.new.kept ≡ w.old.kept) }
+    ensures now { IfOk result (λ served. applied (Change.Store out value status) w.old.now ≡ (served, w.new.now)) }
+    ensures marks { OnOk result (w.new.marks ≡ w.old.marks) }
 {
     store_if(out, value, w)?;
-    Ok(answered(status))
+    Ok(with_status(status))
 }
 
-/// Makes the change that a row ends with.
+/// Applies the change that a row ends with.
 ///
 /// # Errors
 ///
-/// `OutOfMemory` where there is no memory.
-pub fn commit(change: Change, w: &mut World) -> Result<Served, OutOfMemory>
+/// `OutOfMemory` if there is no memory.
+pub fn apply(change: Change, w: &mut World) -> Result<Served, OutOfMemory>
     requires { is_allowed change w.old.now ≡ true }
-    ensures now { IfOk result (λ served. committed change w.old.now ≡ (served, w.new.now)) }
-    ensures kept { OnOk result (w.new.kept ≡ w.old.kept) }
+    ensures now { IfOk result (λ served. applied change w.old.now ≡ (served, w.new.now)) }
+    ensures marks { OnOk result (w.new.marks ≡ w.old.marks) }
 {
     match change {
         Change::Value(value) => Ok(Served::Value(value)),
@@ -159,5 +160,22 @@ pub fn commit(change: Change, w: &mut World) -> Result<Served, OutOfMemory>
             count,
             count_first,
         } => return_block(contents, buffer, count, count_first, w),
+        Change::Connect {
+            controller,
+            list,
+            count,
+            path,
+            at_end,
+            recursive,
+        } => connect(controller, list, count, path, at_end, recursive, w),
+        Change::Disconnect {
+            controller,
+            driver,
+            child,
+        } => Ok(Served::Again(Reentry::Disconnect {
+            controller,
+            driver,
+            child,
+        })),
     }
 }

@@ -1,28 +1,29 @@
 //! Changes of the handle database and of the open records.
-ghost use Rattle.std.specs.Prelude.{◌≡◌, ◌≤◌, IfOk, OnOk, true};
+ghost use Rattle.std.specs.Prelude.{◌≡◌, ◌≤◌, Ok, IfOk, OnOk, is_ok, true};
 ghost use Rattle.guest_memory.specs.GuestMemory.{is_writable_range};
-ghost use Rattle.service_model.specs.Allowed.{is_allowed};
-ghost use Rattle.service_model.specs.Changes.{committed, handle_told, pair_behind, pair_installed, pairs_installed};
+ghost use Rattle.world_model.specs.Interfaces.{install_answer};
+ghost use Rattle.service_model.specs.Allowed.{can_install, is_allowed};
+ghost use Rattle.service_model.specs.Changes.{applied, new_handle_stored, pair_added, pair_installed, pairs_installed};
 
-use crate::many::pair_at;
-use crate::storing::{answered, store, store_if};
+use crate::storing::{store, store_if, with_status};
 use fw_types::{Attr, Guid, Handle, OutOfMemory, Status};
 use fw_world::World;
 use handle_db::DbRefusal;
 use open_records::RecFault;
-use service_model::laws::images_do_not_last;
-use service_model::{Change, Served};
+use service_model::laws::{images_do_not_last, pairs_are_installed};
+use service_model::{Change, MOST_PAIRS, Served};
+use service_rows::many::pair_at;
 
-/// Stores the number of a handle that is new.
-fn tell_handle(
+/// Stores the number of a handle if it is new.
+fn store_new_handle(
     handle: &Option<Handle>,
     out: u64,
     new: Handle,
     w: &mut World,
 ) -> Result<(), OutOfMemory>
     requires { is_writable_range w.old.now.soft.memory out 8 ≡ true }
-    ensures now { OnOk result (w.new.now ≡ handle_told handle.now out new w.old.now) }
-    ensures kept { OnOk result (w.new.kept ≡ w.old.kept) }
+    ensures now { OnOk result (w.new.now ≡ new_handle_stored handle.now out new w.old.now) }
+    ensures marks { OnOk result (w.new.marks ≡ w.old.marks) }
 {
     match handle {
         None => store(out, new.get(), w),
@@ -40,21 +41,20 @@ pub fn install(
     w: &mut World,
 ) -> Result<Served, OutOfMemory>
     requires { is_writable_range w.old.now.soft.memory out 8 ≡ true }
-    ensures now { IfOk result (λ served. committed (Change.Install handle.now guid interface owner out) w.old.now ≡ (served, w.new.now)) }
-    ensures kept { OnOk result (w.new.kept ≡ w.old.kept) }
+    ensures now { IfOk result (λ served. applied (Change.Install handle.now guid interface owner out) w.old.now ≡ (served, w.new.now)) }
+    ensures marks { OnOk result (w.new.marks ≡ w.old.marks) }
 {
     match w.install(*handle, guid, interface, owner) {
         Ok(new) => {
-            tell_handle(handle, out, new, w)?;
-            Ok(answered(Status::SUCCESS))
+            store_new_handle(handle, out, new, w)?;
+            Ok(with_status(Status::SUCCESS))
         }
         Err(DbRefusal::OutOfMemory) => Err(OutOfMemory),
-        Err(_) => Ok(answered(Status::OUT_OF_RESOURCES)),
+        Err(_) => Ok(with_status(Status::OUT_OF_RESOURCES)),
     }
 }
 
-/// Installs an interface on a handle or on a new one, and answers that, or leaves all where a limit is
-/// met.
+/// Installs an interface that nothing refuses on a handle or on a new one, and answers that handle.
 fn install_on(
     handle: &Option<Handle>,
     guid: Guid,
@@ -62,18 +62,20 @@ fn install_on(
     owner: Handle,
     w: &mut World,
 ) -> Result<Option<Handle>, OutOfMemory>
-    ensures now { IfOk result (λ new. pair_installed (Ok (guid, interface)) owner handle.now w.old.now ≡ (new, w.new.now)) }
-    ensures kept { OnOk result (w.new.kept ≡ w.old.kept) }
+    requires { is_ok (install_answer handle.now guid w.old.now.soft) ≡ true }
+    ensures now { IfOk result (λ new. pair_added (install_answer handle.now guid w.old.now.soft)
+        handle.now (guid, interface) owner w.old.now ≡ Ok (new, w.new.now)) }
+    ensures marks { OnOk result (w.new.marks ≡ w.old.marks) }
     ensures memory { OnOk result (w.new.now.soft.memory ≡ w.old.now.soft.memory) }
 {
     match w.install(*handle, guid, interface, owner) {
         Ok(new) => Ok(Some(new)),
         Err(DbRefusal::OutOfMemory) => Err(OutOfMemory),
-        Err(_) => Ok(*handle),
+        Err(_) => unreachable!(),
     }
 }
 
-/// Installs a pair, on a handle or on a new one, and answers the handle.
+/// Installs a pair that nothing refuses on a handle or on a new one, and answers that handle.
 fn install_pair(
     i: u64,
     list: u64,
@@ -81,18 +83,20 @@ fn install_pair(
     handle: &Option<Handle>,
     w: &mut World,
 ) -> Result<Option<Handle>, OutOfMemory>
-    requires { i ≤ 32 }
-    ensures now { IfOk result (λ new. pair_behind i list owner (handle.now, w.old.now) ≡ (new, w.new.now)) }
-    ensures kept { OnOk result (w.new.kept ≡ w.old.kept) }
+    requires few { i ≤ MOST_PAIRS }
+    requires fits { is_ok (pair_installed i list owner (handle.now, w.old.now)) ≡ true }
+    ensures now { IfOk result
+        (λ new. pair_installed i list owner (handle.now, w.old.now) ≡ Ok (new, w.new.now)) }
+    ensures marks { OnOk result (w.new.marks ≡ w.old.marks) }
     ensures memory { OnOk result (w.new.now.soft.memory ≡ w.old.now.soft.memory) }
 {
     match pair_at(list, i, w) {
         Ok((guid, interface)) => install_on(handle, guid, interface, owner, w),
-        Err(_) => Ok(*handle),
+        Err(_) => unreachable!(),
     }
 }
 
-/// Installs the first pairs, and answers the handle.
+/// Installs the first pairs of a list that can be installed, and answers their handle.
 fn install_pairs(
     count: u64,
     list: u64,
@@ -100,11 +104,15 @@ fn install_pairs(
     handle: Option<Handle>,
     w: &mut World,
 ) -> Result<Option<Handle>, OutOfMemory>
-    requires { count ≤ 32 }
-    ensures now { IfOk result (λ new. pairs_installed count list owner handle w.old.now ≡ (new, w.new.now)) }
-    ensures kept { OnOk result (w.new.kept ≡ w.old.kept) }
+    requires few { count ≤ MOST_PAIRS }
+    requires can { can_install handle list count w.old.now ≡ true }
+    ensures now { IfOk result
+        (λ new. pairs_installed count list owner handle w.old.now ≡ Ok (new, w.new.now)) }
+    ensures marks { OnOk result (w.new.marks ≡ w.old.marks) }
     ensures memory { OnOk result (w.new.now.soft.memory ≡ w.old.now.soft.memory) }
 {
+    pairs_are_installed();
+    w.is_kept();
     let mut on = handle;
     for i in 0..count {
         on = install_pair(i, list, owner, &on, w)?;
@@ -112,7 +120,7 @@ fn install_pairs(
     Ok(on)
 }
 
-/// Installs all pairs of a list.
+/// Installs all pairs of a list that can be installed.
 pub fn install_many(
     handle: &Option<Handle>,
     list: u64,
@@ -121,33 +129,34 @@ pub fn install_many(
     out: u64,
     w: &mut World,
 ) -> Result<Served, OutOfMemory>
-    requires few { count ≤ 32 }
+    requires few { count ≤ MOST_PAIRS }
+    requires can { can_install handle.now list count w.old.now ≡ true }
     requires out { is_writable_range w.old.now.soft.memory out 8 ≡ true }
-    ensures now { IfOk result (λ served. committed (Change.InstallMany handle.now list count owner out) w.old.now ≡ (served, w.new.now)) }
-    ensures kept { OnOk result (w.new.kept ≡ w.old.kept) }
+    ensures now { IfOk result (λ served. applied (Change.InstallMany handle.now list count owner out) w.old.now ≡ (served, w.new.now)) }
+    ensures marks { OnOk result (w.new.marks ≡ w.old.marks) }
 {
     if let Some(new) = install_pairs(count, list, owner, *handle, w)? {
-        tell_handle(handle, out, new, w)?;
+        store_new_handle(handle, out, new, w)?;
     }
-    Ok(answered(Status::SUCCESS))
+    Ok(with_status(Status::SUCCESS))
 }
 
 /// Uninstalls an interface that an image owns, with the records on it.
 pub fn uninstall(handle: Handle, guid: Guid, w: &mut World) -> Result<Served, OutOfMemory>
     requires { is_allowed (Change.Uninstall handle guid) w.old.now ≡ true }
-    ensures now { IfOk result (λ served. committed (Change.Uninstall handle guid) w.old.now ≡ (served, w.new.now)) }
-    ensures kept { OnOk result (w.new.kept ≡ w.old.kept) }
+    ensures now { IfOk result (λ served. applied (Change.Uninstall handle guid) w.old.now ≡ (served, w.new.now)) }
+    ensures marks { OnOk result (w.new.marks ≡ w.old.marks) }
 {
     images_do_not_last();
     w.is_kept();
     match w.uninstall(handle, guid) {
-        Ok(()) => Ok(answered(Status::SUCCESS)),
+        Ok(()) => Ok(with_status(Status::SUCCESS)),
         Err(DbRefusal::OutOfMemory) => Err(OutOfMemory),
-        Err(_) => Ok(answered(Status::NOT_FOUND)),
+        Err(_) => Ok(with_status(Status::NOT_FOUND)),
     }
 }
 
-/// Enters an open.
+/// Records an open of an interface.
 pub fn enter(
     handle: Handle,
     guid: Guid,
@@ -159,16 +168,16 @@ pub fn enter(
     w: &mut World,
 ) -> Result<Served, OutOfMemory>
     requires { is_allowed (Change.Open handle guid agent controller attr out interface) w.old.now ≡ true }
-    ensures now { IfOk result (λ served. committed (Change.Open handle guid agent controller attr out interface) w.old.now ≡ (served, w.new.now)) }
-    ensures kept { OnOk result (w.new.kept ≡ w.old.kept) }
+    ensures now { IfOk result (λ served. applied (Change.Open handle guid agent controller attr out interface) w.old.now ≡ (served, w.new.now)) }
+    ensures marks { OnOk result (w.new.marks ≡ w.old.marks) }
 {
     match w.enter(handle, guid, agent, controller, attr) {
         Ok(()) => {
             store_if(out, interface, w)?;
-            Ok(answered(Status::SUCCESS))
+            Ok(with_status(Status::SUCCESS))
         }
         Err(RecFault::OutOfMemory) => Err(OutOfMemory),
-        Err(RecFault::Full) => Ok(answered(Status::OUT_OF_RESOURCES)),
+        Err(RecFault::Full) => Ok(with_status(Status::OUT_OF_RESOURCES)),
     }
 }
 
@@ -180,9 +189,9 @@ pub fn leave(
     controller: u64,
     w: &mut World,
 ) -> Result<Served, OutOfMemory>
-    ensures now { IfOk result (λ served. committed (Change.Close handle guid agent controller) w.old.now ≡ (served, w.new.now)) }
-    ensures kept { OnOk result (w.new.kept ≡ w.old.kept) }
+    ensures now { IfOk result (λ served. applied (Change.Close handle guid agent controller) w.old.now ≡ (served, w.new.now)) }
+    ensures marks { OnOk result (w.new.marks ≡ w.old.marks) }
 {
     let _gone = w.leave(handle, guid, agent, controller)?;
-    Ok(answered(Status::SUCCESS))
+    Ok(with_status(Status::SUCCESS))
 }

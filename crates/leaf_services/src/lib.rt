@@ -1,24 +1,23 @@
-//! The boot services that end where they are called: those that neither connect nor disconnect.
+//! The boot services, up to where a service enters the driver model again.
 //!
-//! `serve` is the table of `service_model`, `specs/BootServices.antt`. A row of it is a function that
-//! looks at the arguments and at the world and answers a change or stops (`rows`, `protocols` and `many`,
-//! in the words of `words`). `changes` alone changes the world, by the calls of `storing`, `interfaces` and
-//! `buffers`.
+//! `serve` is the table of `service_model`, `specs/BootServices.antt`. Each row of it is a function of
+//! `service_rows` that looks at the arguments and at the world, and answers a change or why it stops.
+//! `changes` alone changes the world, by the calls of `storing`, `interfaces` and `buffers`; `reentries`
+//! has what ConnectController and DisconnectController go on with, whose rows are not yet in the table.
 #![tactic(auto)]
 
 mod boot_services;
 mod buffers;
 mod changes;
 mod interfaces;
-mod many;
-mod protocols;
-mod rows;
+mod reentries;
 mod storing;
-mod words;
 
 pub use boot_services::serve;
-pub use service_model::{Caller, Served};
+pub use service_model::{Caller, Reentry, Served};
 
+#[cfg(test)]
+mod connect_tests;
 #[cfg(test)]
 mod limit_tests;
 #[cfg(test)]

@@ -1,59 +1,14 @@
-//! Services where a limit is met: what else is wrong with a call answers before that.
-ghost use Rattle.std.specs.Prelude.{◌≡◌, true};
-ghost use Rattle.service_model.specs.BootServices.{is_boot_service};
-
-use crate::Served;
+//! Services when a limit is met: what else is wrong with a call answers before that.
 use crate::order_tests::{Call, TABLE_ZERO, all_answer};
 use crate::protocol_tests::{
-    BAD, DENIED, DONE, FIRST, FULL, INVALID, LIST, MISSING, NAME, NOWHERE, OTHER, SECOND, SHORT,
-    STARTED, TRAPPED, UNKNOWN, are_words, fifth, fourth, install_list, prepared, put_name,
+    BAD, DENIED, DONE, FIRST, FULL, INVALID, LIST, MISSING, NAME, NOWHERE, OTHER, SECOND, STARTED,
+    TRAPPED, UNKNOWN, are_words, fifth, fourth, install_list, prepared, put_name,
 };
-use crate::tests::{PLACE, call, called_at};
+use crate::tests::{Answer, PLACE, call, called_at};
 use fw_world::World;
 use guest_memory::{GuestMem, SegKind};
 use service_thunks::Service;
-use std::process::Abort;
 use std::test::Fail;
-
-// ---- the price
-
-/// A service with NULL for each pointer: it costs so many units, and spends none where one is missing.
-fn costs(rt: &impl Abort, world: &mut World, s: Service, price: u32) -> Result<(), Fail>
-    requires { is_boot_service s ≡ true }
-{
-    for (left, served) in [(price.saturating_sub(1), SHORT), (price, INVALID)] {
-        world.begin_command(left);
-        assert_eq!(rt; call(world, s, &[0; 6])?, served, "at {left}");
-        let spent = if served == SHORT { 0 } else { price };
-        assert_eq!(rt;
-            world.left(),
-            u64::from(left.saturating_sub(spent)),
-            "at {left}"
-        );
-    }
-    Ok(())
-}
-
-#[test]
-fn prices_of_eight(rt: HostRuntime) -> Result<(), Fail> {
-    let mut world = prepared(&rt)?;
-    costs(&rt, &mut world, Service::Install, 8)?;
-    costs(&rt, &mut world, Service::Uninstall, 8)?;
-    costs(&rt, &mut world, Service::HandleProtocol, 8)?;
-    costs(&rt, &mut world, Service::OpenProtocol, 8)?;
-    costs(&rt, &mut world, Service::CloseProtocol, 8)
-}
-
-#[test]
-fn prices_of_sixteen(rt: HostRuntime) -> Result<(), Fail> {
-    let mut world = prepared(&rt)?;
-    costs(&rt, &mut world, Service::LocateHandle, 16)?;
-    costs(&rt, &mut world, Service::OpenProtocolInformation, 16)?;
-    costs(&rt, &mut world, Service::ProtocolsPerHandle, 16)?;
-    costs(&rt, &mut world, Service::LocateHandleBuffer, 16)?;
-    costs(&rt, &mut world, Service::LocateProtocol, 16)?;
-    costs(&rt, &mut world, Service::InstallMultiple, 16)
-}
 
 // ---- 64 interfaces of a handle
 
@@ -83,7 +38,7 @@ fn many_interfaces(rt: HostRuntime) -> Result<(), Fail> {
 }
 
 /// InstallMultipleProtocolInterfaces on a handle that may have one interface more.
-const LISTS: [([u64; 8], Served); 5] = [
+const LISTS: [([u64; 8], Answer); 5] = [
     ([FIRST, OTHER, 6, NOWHERE, 7, 0, 0, 0], FULL),
     ([FIRST, OTHER, 6, OTHER, 7, 0, 0, 0], INVALID),
     ([FIRST, OTHER, 6, NOWHERE, 7, OTHER, 8, 0], FULL),
@@ -104,13 +59,13 @@ fn pairs_past_the_limit(rt: HostRuntime) -> Result<(), Fail> {
 
 // ---- 32 pairs
 
-/// Where the GUID of a pair stands.
+/// The place of the GUID of a pair.
 fn name_place(i: u64) -> u64 {
     PLACE.wrapping_add(i.wrapping_mul(16)).wrapping_add(0x200)
 }
 
-/// Puts 32 pairs at `LIST`, behind `FIRST`, and then a word.
-fn put_pairs(world: &mut World, behind: u64) -> Result<(), Fail> {
+/// Puts 32 pairs at `LIST`, after `FIRST`, and then a word.
+fn put_pairs(world: &mut World, last: u64) -> Result<(), Fail> {
     world.write(LIST, 8, FIRST)?;
     let mut at = LIST;
     for i in 0..32u64 {
@@ -119,7 +74,7 @@ fn put_pairs(world: &mut World, behind: u64) -> Result<(), Fail> {
         world.write(at.wrapping_add(16), 8, i)?;
         at = at.wrapping_add(16);
     }
-    world.write(LIST + 520, 8, behind)?;
+    world.write(LIST + 520, 8, last)?;
     Ok(())
 }
 
@@ -176,8 +131,8 @@ fn most_pairs_past_the_limit(rt: HostRuntime) -> Result<(), Fail> {
 
 // ---- a full pool
 
-/// Services that return a block, where the pool has no byte left and a record stands on protocol 1 of
-/// handle 4.
+/// Services that return a block, when the pool has no byte left and protocol 1 of handle 4 has an open
+/// record.
 const PROTOCOLS: [Call; 3] = [
     ([4, 0, SECOND, 0, 0, 0], INVALID),
     ([4, BAD, SECOND, 0, 0, 0], TRAPPED),
@@ -223,7 +178,7 @@ fn full_pool(rt: HostRuntime) -> Result<(), Fail> {
     Ok(())
 }
 
-/// Services that make a block, where there are as many blocks as may be: not even one of no bytes has room.
+/// Services that make a block, when there are as many blocks as may be: not even one of no bytes has room.
 const MORE_BLOCKS: [Call; 3] = [
     ([0, 0, 0, 0, 0, 0], INVALID),
     ([0, 0, BAD, 0, 0, 0], TRAPPED),
@@ -274,7 +229,7 @@ fn most_blocks(rt: HostRuntime) -> Result<(), Fail> {
 
 // ---- a full database
 
-/// InstallProtocolInterface where 4,096 handles are live, of which `FIRST` names none and `SECOND` names
+/// InstallProtocolInterface when 4,096 handles are live: `FIRST` has the number of none, and `SECOND` that of
 /// handle 4.
 const NEW_HANDLES: [Call; 6] = [
     ([FIRST, 0, 0, 5, 0, 0], INVALID),
@@ -348,7 +303,7 @@ fn fill_table(world: &mut World) -> Result<(), Fail> {
     put_name(world, OTHER, 100)
 }
 
-/// OpenProtocol where there are 65,536 records.
+/// OpenProtocol when there are 65,536 records.
 const OPENS: [Call; 16] = [
     ([4, 0, SECOND, 3, 2, 0x10], INVALID),
     ([99, OTHER, SECOND, 3, 2, 0x10], INVALID),

@@ -3,12 +3,11 @@
 ghost use Rattle.std.specs.Prelude.{◌≡◌, true};
 ghost use Rattle.service_model.specs.BootServices.{is_boot_service};
 
-use crate::Served;
 use crate::protocol_tests::{
-    BAD, DENIED, DONE, FIRST, INVALID, LOADED, MISSING, NAME, NOWHERE, OTHER, SECOND, SHORT, SMALL,
+    BAD, DENIED, DONE, FIRST, INVALID, LOADED, MISSING, NAME, NOWHERE, OTHER, SECOND, SMALL,
     STARTED, TABLE, TRAPPED, UNKNOWN, install_list, prepared,
 };
-use crate::tests::{STACK_END, call, called_at};
+use crate::tests::{Answer, STACK_END, call, called_at};
 use fw_world::World;
 use guest_memory::GuestMem;
 use service_thunks::Service;
@@ -16,9 +15,9 @@ use std::process::Abort;
 use std::test::Fail;
 
 /// The arguments of a call, and what it answers.
-pub(crate) type Call = ([u64; 6], Served);
+pub(crate) type Call = ([u64; 6], Answer);
 
-/// A service answers each of some calls so.
+/// A service answers each of these calls as given.
 pub(crate) fn all_answer(
     rt: &impl Abort,
     world: &mut World,
@@ -33,12 +32,12 @@ pub(crate) fn all_answer(
     Ok(())
 }
 
-/// A place in a table whose 8 bytes are 1, the firmware's handle, and one where they are 0.
+/// A place in a table whose 8 bytes are 1, the firmware's handle, and one whose bytes are 0.
 const TABLE_ONE: u64 = TABLE + 32;
 
 pub(crate) const TABLE_ZERO: u64 = TABLE + 40;
 
-/// InstallProtocolInterface, where `SECOND` names a dead handle.
+/// InstallProtocolInterface, with the number of a dead handle at `SECOND`.
 const INSTALLS: [Call; 11] = [
     // a pointer that is NULL before the other
     ([0, BAD, 0, 5, 0, 0], INVALID),
@@ -66,7 +65,7 @@ fn installs(rt: HostRuntime) -> Result<(), Fail> {
     all_answer(&rt, &mut world, Service::Install, &INSTALLS)
 }
 
-/// UninstallProtocolInterface, where a driver uses protocol 1 of handle 4.
+/// UninstallProtocolInterface, while a driver uses protocol 1 of handle 4.
 const UNINSTALLS: [Call; 8] = [
     ([4, 0, 5, 0, 0, 0], INVALID),
     ([99, BAD, 5, 0, 0, 0], TRAPPED),
@@ -109,7 +108,7 @@ fn handle_protocols(rt: HostRuntime) -> Result<(), Fail> {
     all_answer(&rt, &mut world, Service::HandleProtocol, &HANDLE_PROTOCOLS)
 }
 
-/// OpenProtocol where nothing is open.
+/// OpenProtocol while nothing is open.
 const OPENS: [Call; 21] = [
     ([4, 0, BAD, 3, 2, 0x10], INVALID),
     ([99, BAD, SECOND, 3, 2, 0x10], INVALID),
@@ -136,7 +135,7 @@ const OPENS: [Call; 21] = [
     ([4, NOWHERE, SECOND, 3, 2, 0x10], UNKNOWN),
 ];
 
-/// OpenProtocol where image 3 has protocol 1 of handle 4 open as a driver.
+/// OpenProtocol while image 3 has protocol 1 of handle 4 open as a driver.
 const SECOND_OPENS: [Call; 9] = [
     ([4, NAME, 0, 3, 2, 0x10], INVALID),
     ([4, NAME, 0, 1, 2, 0x10], INVALID),
@@ -239,7 +238,7 @@ fn protocols(rt: HostRuntime) -> Result<(), Fail> {
     all_answer(&rt, &mut world, Service::ProtocolsPerHandle, &PROTOCOLS)
 }
 
-/// LocateHandle, where `FIRST` has a size that is enough for one handle, and `SECOND` one that is not.
+/// LocateHandle, with a size at `FIRST` that is enough for one handle, and one at `SECOND` that is not.
 const SEARCHES: [Call; 14] = [
     ([1, NAME, 0, BAD, SECOND, 0], INVALID),
     ([1, NAME, 0, FIRST, BAD, 0], INVALID),
@@ -314,8 +313,8 @@ fn finds(rt: HostRuntime) -> Result<(), Fail> {
     all_answer(&rt, &mut world, Service::LocateProtocol, &FINDS)
 }
 
-/// The first argument of InstallMultipleProtocolInterfaces and the list behind it, where `FIRST` names
-/// handle 4 and `SECOND` a dead handle.
+/// The first argument of InstallMultipleProtocolInterfaces and the list after it, with the number of handle
+/// 4 at `FIRST` and that of a dead handle at `SECOND`.
 const LISTS: [Call; 10] = [
     ([0, BAD, 6, 0, 0, 0], INVALID),
     ([TABLE, OTHER, 6, 0, 0, 0], TRAPPED),
@@ -350,56 +349,4 @@ fn lists(rt: HostRuntime) -> Result<(), Fail> {
         (Some(4), Some(99))
     );
     Ok(())
-}
-
-// ---- the units, the arguments, and what is wrong with them
-
-/// A service with so many arguments, the first of which lie in the last words of the stack, which are 0, and
-/// the last one behind it: units that are missing answer before that, and it answers before NULL, which all
-/// arguments together are refused for.
-fn reads_arguments(
-    rt: &impl Abort,
-    world: &mut World,
-    s: Service,
-    price: u32,
-    count: u64,
-) -> Result<(), Fail>
-    requires { is_boot_service s ≡ true }
-{
-    let all = STACK_END.wrapping_sub(count.wrapping_mul(8));
-    for (left, place, served) in [
-        (price.saturating_sub(1), all.wrapping_add(8), SHORT),
-        (price, all.wrapping_add(8), TRAPPED),
-        (price, all, INVALID),
-    ] {
-        world.begin_command(left);
-        assert_eq!(rt; called_at(world, s, place)?, served, "at {place:x}");
-    }
-    Ok(())
-}
-
-#[test]
-fn arguments(rt: HostRuntime) -> Result<(), Fail> {
-    let mut world = prepared(&rt)?;
-    for i in 0..6 {
-        world.write(STACK_END - 48 + 8 * i, 8, 0)?;
-    }
-    reads_arguments(&rt, &mut world, Service::Install, 8, 4)?;
-    reads_arguments(&rt, &mut world, Service::Uninstall, 8, 3)?;
-    reads_arguments(&rt, &mut world, Service::HandleProtocol, 8, 3)?;
-    reads_arguments(&rt, &mut world, Service::LocateHandle, 16, 5)?;
-    reads_arguments(&rt, &mut world, Service::OpenProtocol, 8, 6)?;
-    reads_arguments(&rt, &mut world, Service::CloseProtocol, 8, 4)
-}
-
-#[test]
-fn more_arguments(rt: HostRuntime) -> Result<(), Fail> {
-    let mut world = prepared(&rt)?;
-    for i in 0..5 {
-        world.write(STACK_END - 40 + 8 * i, 8, 0)?;
-    }
-    reads_arguments(&rt, &mut world, Service::OpenProtocolInformation, 16, 4)?;
-    reads_arguments(&rt, &mut world, Service::ProtocolsPerHandle, 16, 3)?;
-    reads_arguments(&rt, &mut world, Service::LocateHandleBuffer, 16, 5)?;
-    reads_arguments(&rt, &mut world, Service::LocateProtocol, 16, 3)
 }

@@ -1,8 +1,7 @@
 //! The protocol handler services, as drivers call them.
 ghost use Rattle.std.specs.Prelude.{◌≡◌};
 
-use crate::Served;
-use crate::tests::{PLACE, call, called_at, world_with};
+use crate::tests::{Answer, PLACE, call, called_at, world_with};
 use fw_types::{Cause, Guid, Handle, Known, Status};
 use fw_world::World;
 use guest_memory::GuestMem;
@@ -10,15 +9,14 @@ use service_thunks::Service;
 use std::process::Abort;
 use std::test::Fail;
 
-// ---- where arguments lie, and what services answer
+// ---- the places of arguments, and what services answer
 
-/// Where handles, interfaces and sizes are stored.
+/// Places at which handles, interfaces and sizes are stored.
 pub(crate) const FIRST: u64 = PLACE;
 
 pub(crate) const SECOND: u64 = PLACE + 8;
 
-/// Where the GUIDs of protocols 1 and 2 stand, the one that no handle has, and that of the loaded image
-/// protocol.
+/// Places of the GUIDs of protocols 1 and 2, of one that no handle has, and of the loaded image protocol.
 pub(crate) const NAME: u64 = PLACE + 0x100;
 
 pub(crate) const OTHER: u64 = PLACE + 0x110;
@@ -27,7 +25,7 @@ pub(crate) const NOWHERE: u64 = PLACE + 0x120;
 
 pub(crate) const LOADED: u64 = PLACE + 0x130;
 
-/// Where the arguments of InstallMultipleProtocolInterfaces stand.
+/// The place of the arguments of InstallMultipleProtocolInterfaces.
 pub(crate) const LIST: u64 = PLACE + 0x1000;
 
 /// A place in no segment, and a table, which can't be written.
@@ -35,25 +33,23 @@ pub(crate) const BAD: u64 = 0x1000;
 
 pub(crate) const TABLE: u64 = 0x1_0000;
 
-pub(crate) const TRAPPED: Served = Served::Trap(Cause::Memory);
+pub(crate) const TRAPPED: Answer = Answer::Trap(Cause::Memory);
 
-pub(crate) const SHORT: Served = Served::Trap(Cause::Budget);
+pub(crate) const DONE: Answer = Answer::Value(Status::SUCCESS.0);
 
-pub(crate) const DONE: Served = Served::Value(Status::SUCCESS.0);
+pub(crate) const INVALID: Answer = Answer::Value(Status::INVALID_PARAMETER.0);
 
-pub(crate) const INVALID: Served = Served::Value(Status::INVALID_PARAMETER.0);
+pub(crate) const UNKNOWN: Answer = Answer::Value(Status::UNSUPPORTED.0);
 
-pub(crate) const UNKNOWN: Served = Served::Value(Status::UNSUPPORTED.0);
+pub(crate) const MISSING: Answer = Answer::Value(Status::NOT_FOUND.0);
 
-pub(crate) const MISSING: Served = Served::Value(Status::NOT_FOUND.0);
+pub(crate) const SMALL: Answer = Answer::Value(Status::BUFFER_TOO_SMALL.0);
 
-pub(crate) const SMALL: Served = Served::Value(Status::BUFFER_TOO_SMALL.0);
+pub(crate) const DENIED: Answer = Answer::Value(Status::ACCESS_DENIED.0);
 
-pub(crate) const DENIED: Served = Served::Value(Status::ACCESS_DENIED.0);
+pub(crate) const STARTED: Answer = Answer::Value(Status::ALREADY_STARTED.0);
 
-pub(crate) const STARTED: Served = Served::Value(Status::ALREADY_STARTED.0);
-
-pub(crate) const FULL: Served = Served::Value(Status::OUT_OF_RESOURCES.0);
+pub(crate) const FULL: Answer = Answer::Value(Status::OUT_OF_RESOURCES.0);
 
 // ---- a world with a protocol
 
@@ -105,7 +101,7 @@ pub(crate) fn fifth() -> Handle
 }
 
 /// InstallMultipleProtocolInterfaces with its arguments at `LIST`.
-pub(crate) fn install_list(world: &mut World, arguments: &[u64]) -> Result<Served, Fail> {
+pub(crate) fn install_list(world: &mut World, arguments: &[u64]) -> Result<Answer, Fail> {
     let mut at = LIST;
     for argument in arguments {
         world.write(at, 8, *argument)?;
@@ -114,7 +110,7 @@ pub(crate) fn install_list(world: &mut World, arguments: &[u64]) -> Result<Serve
     called_at(world, Service::InstallMultiple, LIST)
 }
 
-/// The numbers that stand from an address on, 8 bytes each.
+/// The numbers from an address on, 8 bytes each.
 pub(crate) fn are_words(rt: &impl Abort, world: &World, at: u64, words: &[u64]) {
     let mut place = at;
     for word in words {
@@ -162,7 +158,7 @@ fn first_interface(rt: HostRuntime) -> Result<(), Fail> {
     Ok(())
 }
 
-/// An interface stays that a driver uses, and goes with the records that keep nobody out.
+/// An interface stays while a driver uses it, and is removed with the records that keep nobody out.
 #[test]
 fn lasting_interfaces(rt: HostRuntime) -> Result<(), Fail> {
     let mut world = prepared(&rt)?;
@@ -211,10 +207,10 @@ fn pairs(rt: HostRuntime) -> Result<(), Fail> {
 
 // ---- opening
 
-/// An open, what it answers, and then what is stored where 7 was, and how many records there are.
-type Open = ([u64; 6], Served, u64, u32);
+/// An open, what it answers, and then what is stored in place of 7, and how many records there are.
+type Open = ([u64; 6], Answer, u64, u32);
 
-/// One behind the other.
+/// Opens, one after the other.
 const OPENS: [Open; 14] = [
     // no such protocol: 0 is stored, but never by a test
     ([4, NOWHERE, SECOND, 3, 2, 0x10], UNKNOWN, 0, 0),
@@ -359,7 +355,7 @@ fn handles_in_a_block(rt: HostRuntime) -> Result<(), Fail> {
     Ok(())
 }
 
-/// LocateProtocol: the interface of the least handle, and 0 where there is none.
+/// LocateProtocol: the interface of the least handle, and 0 if there is none.
 #[test]
 fn least_handle(rt: HostRuntime) -> Result<(), Fail> {
     let mut world = with_two(&rt)?;

@@ -2,7 +2,7 @@
 ghost use Rattle.std.specs.Prelude.{◌≡◌, IfOk, OnOk, true};
 ghost use Rattle.guest_memory.specs.GuestMemory.{is_writable_range};
 ghost use Rattle.service_model.specs.Allowed.{can_store};
-ghost use Rattle.service_model.specs.Changes.{allotted, number_stored, stored_if};
+ghost use Rattle.service_model.specs.Changes.{block_allotted, number_stored, stored_if};
 ghost use Rattle.leaf_services.specs.Writable.{StaysWritable};
 
 use fw_types::{OutOfMemory, Status};
@@ -11,8 +11,8 @@ use guest_memory::SegKind;
 use service_model::Served;
 use service_model::laws::blocks_leave_writable;
 
-/// The service came back with a status.
-pub fn answered(status: Status) -> Served
+/// The service returns with a status.
+pub fn with_status(status: Status) -> Served
     ensures { result ≡ Served.Value status.0 }
 {
     Served::Value(status.0)
@@ -22,16 +22,16 @@ pub fn answered(status: Status) -> Served
 pub fn store(at: u64, value: u64, w: &mut World) -> Result<(), OutOfMemory>
     requires { is_writable_range w.old.now.soft.memory at 8 ≡ true }
     ensures now { OnOk result (w.new.now ≡ number_stored at value w.old.now) }
-    ensures kept { OnOk result (w.new.kept ≡ w.old.kept) }
+    ensures marks { OnOk result (w.new.marks ≡ w.old.marks) }
 {
     w.put(at, &value.to_le_bytes())
 }
 
-/// Stores a number where a place is given for it, which can be written.
+/// Stores a number if a place is given for it, which can be written.
 pub fn store_if(out: Option<u64>, value: u64, w: &mut World) -> Result<(), OutOfMemory>
     requires { can_store out w.old.now ≡ true }
     ensures now { OnOk result (w.new.now ≡ stored_if out value w.old.now) }
-    ensures kept { OnOk result (w.new.kept ≡ w.old.kept) }
+    ensures marks { OnOk result (w.new.marks ≡ w.old.marks) }
 {
     match out {
         None => Ok(()),
@@ -39,10 +39,10 @@ pub fn store_if(out: Option<u64>, value: u64, w: &mut World) -> Result<(), OutOf
     }
 }
 
-/// Makes a block of the pool of these bytes. Answers its address, or `None` where a limit is met.
+/// Makes a block of the pool of these bytes. Answers its address, or `None` if a limit is met.
 pub fn allot(bytes: Vec<u8>, w: &mut World) -> Result<Option<u64>, OutOfMemory>
-    ensures now { IfOk result (λ at. allotted bytes.items w.old.now ≡ (at, w.new.now)) }
-    ensures kept { OnOk result (w.new.kept ≡ w.old.kept) }
+    ensures now { IfOk result (λ at. block_allotted bytes.items w.old.now ≡ (at, w.new.now)) }
+    ensures marks { OnOk result (w.new.marks ≡ w.old.marks) }
     ensures writable { OnOk result (StaysWritable w.old.now w.new.now) }
 {
     blocks_leave_writable();

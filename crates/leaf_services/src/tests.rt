@@ -9,13 +9,29 @@ use service_thunks::Service;
 use std::alloc::AllocError;
 use std::test::Fail;
 
-/// Where the sixteen slots of the stack of level 1 begin, and where the stack ends.
+/// The beginning of the sixteen slots of the stack of level 1, and the end of the stack.
 pub(crate) const SLOTS: u64 = 0x81_ff80;
 
 pub(crate) const STACK_END: u64 = 0x82_0000;
 
 /// A place on the stack of level 1 far from its frame.
 pub(crate) const PLACE: u64 = 0x81_8000;
+
+/// What a service answers.
+#[derive(Clone, Copy, Debug, PartialEq, Eq)]
+pub(crate) enum Answer {
+    Value(u64),
+    Trap(Cause),
+    GoesOn,
+}
+
+fn answer_of(served: Served) -> Answer {
+    match served {
+        Served::Value(value) => Answer::Value(value),
+        Served::Trap(cause) => Answer::Trap(cause),
+        Served::Again(_) => Answer::GoesOn,
+    }
+}
 
 /// `len` bytes, all the same.
 fn bytes_of(rt: &impl AllocGlobal, len: usize, byte: u8) -> Result<Vec<u8>, AllocError> {
@@ -32,7 +48,7 @@ pub(crate) fn world_with(rt: &impl AllocGlobal, units: u32) -> Result<World, Fai
 }
 
 /// A service called by image 3 with these arguments.
-pub(crate) fn call(world: &mut World, s: Service, arguments: &[u64]) -> Result<Served, Fail>
+pub(crate) fn call(world: &mut World, s: Service, arguments: &[u64]) -> Result<Answer, Fail>
     requires { is_boot_service s ≡ true }
 {
     let mut at = SLOTS;
@@ -44,7 +60,7 @@ pub(crate) fn call(world: &mut World, s: Service, arguments: &[u64]) -> Result<S
 }
 
 /// A service called by image 3 with the arguments at an address.
-pub(crate) fn called_at(world: &mut World, s: Service, sp: u64) -> Result<Served, Fail>
+pub(crate) fn called_at(world: &mut World, s: Service, sp: u64) -> Result<Answer, Fail>
     requires { is_boot_service s ≡ true }
 {
     let caller = Caller {
@@ -52,15 +68,15 @@ pub(crate) fn called_at(world: &mut World, s: Service, sp: u64) -> Result<Served
         level: 1,
         sp,
     };
-    Ok(serve(world, s, &caller)?)
+    Ok(answer_of(serve(world, s, &caller)?))
 }
 
-/// What a service answers that comes back with a status.
-pub(crate) fn with(status: Status) -> Served {
-    Served::Value(status.0)
+/// What a service answers that returns with a status.
+pub(crate) fn with(status: Status) -> Answer {
+    Answer::Value(status.0)
 }
 
-/// The first block lies behind the 96 bytes of the loaded image block.
+/// The first block lies after the 96 bytes of the loaded image block.
 #[test]
 fn first_block(rt: HostRuntime) -> Result<(), Fail> {
     let mut world = world_with(&rt, 100)?;
@@ -109,17 +125,17 @@ fn sizes_of_blocks(rt: HostRuntime) -> Result<(), Fail> {
     Ok(())
 }
 
-/// Where the address of a block can't be stored.
+/// Places at which the address of a block can't be stored.
 #[test]
 fn places_of_blocks(rt: HostRuntime) -> Result<(), Fail> {
     let mut world = world_with(&rt, 100)?;
-    let places: [(u64, u64, Served); 5] = [
+    let places: [(u64, u64, Answer); 5] = [
         (0, 24, with(Status::INVALID_PARAMETER)),
         (0, 67_108_865, with(Status::INVALID_PARAMETER)),
         // a table; nowhere; 7 bytes of the stack
-        (0x1_0000, 67_108_865, Served::Trap(Cause::Memory)),
-        (0x1000, 24, Served::Trap(Cause::Memory)),
-        (STACK_END - 7, 24, Served::Trap(Cause::Memory)),
+        (0x1_0000, 67_108_865, Answer::Trap(Cause::Memory)),
+        (0x1000, 24, Answer::Trap(Cause::Memory)),
+        (STACK_END - 7, 24, Answer::Trap(Cause::Memory)),
     ];
     for (out, size, served) in places {
         assert_eq!(rt;
@@ -156,7 +172,7 @@ fn freed_blocks(rt: HostRuntime) -> Result<(), Fail> {
     Ok(())
 }
 
-/// Bytes are copied to behind where they stand, and to before.
+/// Bytes are copied to a place after their own, and to one before it.
 #[test]
 fn overlapping_copies(rt: HostRuntime) -> Result<(), Fail> {
     let mut world = world_with(&rt, 100)?;
@@ -164,7 +180,7 @@ fn overlapping_copies(rt: HostRuntime) -> Result<(), Fail> {
     world.write(PLACE + 8, 8, 0x1817_1615_1413_1211)?;
     assert_eq!(rt;
         call(&mut world, Service::CopyMem, &[PLACE + 3, PLACE, 9])?,
-        Served::Value(0)
+        Answer::Value(0)
     );
     assert_eq!(rt;
         (world.read(PLACE, 8), world.read(PLACE + 8, 8), world.left()),
@@ -172,7 +188,7 @@ fn overlapping_copies(rt: HostRuntime) -> Result<(), Fail> {
     );
     assert_eq!(rt;
         call(&mut world, Service::CopyMem, &[PLACE, PLACE + 2, 8])?,
-        Served::Value(0)
+        Answer::Value(0)
     );
     assert_eq!(rt;
         (world.read(PLACE, 8), world.read(PLACE + 8, 8), world.left()),
@@ -185,15 +201,15 @@ fn overlapping_copies(rt: HostRuntime) -> Result<(), Fail> {
 #[test]
 fn ends_of_copies(rt: HostRuntime) -> Result<(), Fail> {
     let mut world = world_with(&rt, 100)?;
-    let copies: [(u64, u64, u64, Served); 7] = [
-        (PLACE, 0x1_0000, 4, Served::Value(0)),
-        (0x1_0000, PLACE, 1, Served::Trap(Cause::Memory)),
-        (PLACE, 0x1_0000, 129, Served::Trap(Cause::Memory)),
-        (STACK_END - 3, PLACE, 4, Served::Trap(Cause::Memory)),
-        (PLACE, 0x1000, 1, Served::Trap(Cause::Memory)),
+    let copies: [(u64, u64, u64, Answer); 7] = [
+        (PLACE, 0x1_0000, 4, Answer::Value(0)),
+        (0x1_0000, PLACE, 1, Answer::Trap(Cause::Memory)),
+        (PLACE, 0x1_0000, 129, Answer::Trap(Cause::Memory)),
+        (STACK_END - 3, PLACE, 4, Answer::Trap(Cause::Memory)),
+        (PLACE, 0x1000, 1, Answer::Trap(Cause::Memory)),
         // neither place is looked at
-        (0x1_0000, 0x1000, 0, Served::Value(0)),
-        (0, 0, 0, Served::Value(0)),
+        (0x1_0000, 0x1000, 0, Answer::Value(0)),
+        (0, 0, 0, Answer::Value(0)),
     ];
     for (to, from, n, served) in copies {
         assert_eq!(rt; call(&mut world, Service::CopyMem, &[to, from, n])?, served);
@@ -209,13 +225,13 @@ fn ends_of_copies(rt: HostRuntime) -> Result<(), Fail> {
 #[test]
 fn filled_bytes(rt: HostRuntime) -> Result<(), Fail> {
     let mut world = world_with(&rt, 100)?;
-    let fills: [(u64, u64, Served, u64); 6] = [
-        (0x1_0000, 1, Served::Trap(Cause::Memory), 2),
-        (PLACE + 1, 3, Served::Value(0), 2),
-        (0x200_0000, 4, Served::Value(0), 2),
-        (0x200_0001, 4, Served::Trap(Cause::Memory), 2),
-        (STACK_END - 9, 9, Served::Value(0), 3),
-        (0x1_0000, 0, Served::Value(0), 1),
+    let fills: [(u64, u64, Answer, u64); 6] = [
+        (0x1_0000, 1, Answer::Trap(Cause::Memory), 2),
+        (PLACE + 1, 3, Answer::Value(0), 2),
+        (0x200_0000, 4, Answer::Value(0), 2),
+        (0x200_0001, 4, Answer::Trap(Cause::Memory), 2),
+        (STACK_END - 9, 9, Answer::Value(0), 3),
+        (0x1_0000, 0, Answer::Value(0), 1),
     ];
     for (to, n, served, price) in fills {
         let before = world.left();
@@ -255,7 +271,7 @@ fn levels(rt: HostRuntime) -> Result<(), Fail> {
     for (service, level, answer, tpl) in steps {
         assert_eq!(rt;
             level_call(&mut world, service, level)?,
-            Served::Value(answer)
+            Answer::Value(answer)
         );
         assert_eq!(rt; world.tpl(), tpl);
     }
@@ -264,89 +280,9 @@ fn levels(rt: HostRuntime) -> Result<(), Fail> {
 }
 
 /// RaiseTPL, or RestoreTPL.
-fn level_call(world: &mut World, s: Service, level: u64) -> Result<Served, Fail> {
+fn level_call(world: &mut World, s: Service, level: u64) -> Result<Answer, Fail> {
     match s {
         Service::RaiseTpl => call(world, Service::RaiseTpl, &[level]),
         _ => call(world, Service::RestoreTpl, &[level]),
     }
-}
-
-/// A price that is more than what is left: nothing is spent.
-#[test]
-fn too_dear(rt: HostRuntime) -> Result<(), Fail> {
-    let mut world = world_with(&rt, 3)?;
-    assert_eq!(rt;
-        call(&mut world, Service::FreePool, &[0])?,
-        Served::Trap(Cause::Budget)
-    );
-    assert_eq!(rt;
-        call(&mut world, Service::AllocatePool, &[0, 129, PLACE])?,
-        Served::Trap(Cause::Budget)
-    );
-    assert_eq!(rt;
-        call(&mut world, Service::SetMem, &[PLACE, 17, 0])?,
-        Served::Trap(Cause::Budget)
-    );
-    // rounding up 2^64 - 1 does not wrap
-    assert_eq!(rt;
-        call(&mut world, Service::SetMem, &[PLACE, u64::MAX, 0])?,
-        Served::Trap(Cause::Budget)
-    );
-    assert_eq!(rt;
-        call(&mut world, Service::CopyMem, &[PLACE, PLACE, u64::MAX])?,
-        Served::Trap(Cause::Budget)
-    );
-    assert_eq!(rt; (world.left(), world.read(PLACE, 8)), (3, Some(0)));
-    // a price of all that is left
-    assert_eq!(rt;
-        call(&mut world, Service::SetMem, &[PLACE, 16, 1])?,
-        Served::Value(0)
-    );
-    assert_eq!(rt; world.left(), 0);
-    Ok(())
-}
-
-/// Arguments that can't be read: a price that names none of them is spent, and another is not.
-#[test]
-fn unreadable_arguments(rt: HostRuntime) -> Result<(), Fail> {
-    let mut world = world_with(&rt, 10)?;
-    assert_eq!(rt;
-        called_at(&mut world, Service::Stall, STACK_END)?,
-        Served::Trap(Cause::Memory)
-    );
-    assert_eq!(rt; world.left(), 9);
-    // its third argument lies at the stack's end
-    assert_eq!(rt;
-        called_at(&mut world, Service::AllocatePool, STACK_END - 16)?,
-        Served::Trap(Cause::Memory)
-    );
-    assert_eq!(rt; world.left(), 9);
-    // a service that reads none
-    assert_eq!(rt;
-        called_at(&mut world, Service::Unbuilt, STACK_END)?,
-        with(Status::UNSUPPORTED)
-    );
-    assert_eq!(rt; world.left(), 8);
-    world.begin_command(0);
-    assert_eq!(rt;
-        called_at(&mut world, Service::AllocatePool, STACK_END)?,
-        Served::Trap(Cause::Memory)
-    );
-    assert_eq!(rt;
-        called_at(&mut world, Service::Stall, STACK_END)?,
-        Served::Trap(Cause::Budget)
-    );
-    Ok(())
-}
-
-/// Stall does nothing.
-#[test]
-fn stalled(rt: HostRuntime) -> Result<(), Fail> {
-    let mut world = world_with(&rt, 10)?;
-    assert_eq!(rt;
-        call(&mut world, Service::Stall, &[1_000_000])?,
-        with(Status::SUCCESS)
-    );
-    assert_eq!(rt; world.left(), 9);
-    Ok(())
 }

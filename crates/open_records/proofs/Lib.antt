@@ -1,8 +1,8 @@
-pub mod Lists
+pub mod ListLemmas
 pub mod Order
-pub mod Parts
-pub mod Entering
-pub mod Going
-pub mod Joining
-pub mod Steps
+pub mod RangeLemmas
+pub mod AddingLemmas
+pub mod RemovalLemmas
+pub mod DistinctNumbers
+pub mod ManagingLemmas
 pub mod LawProofs

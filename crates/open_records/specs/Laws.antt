@@ -2,41 +2,52 @@
 use Rattle.std.specs.Prelude.{◌≡◌, ℕ, ◌≤◌, Bool, true, false, ◌&&◌, not, nat_eq, bytes_eq, List, [], map, filter, count_by, None}
 use Rattle.std.specs.List.{list_any}
 use Rattle.fw_types.specs.Attr.{is_legal}
-use Rattle.open_records.specs.OpenRecords.{Table, IsSound, is_equal, is_strong, records_of}
+use Rattle.fw_types.specs.declared.attr.TheConstants.Attr.{ALL_BITS}
+use Rattle.open_records.specs.OpenRecords.{RecordTable, IsSound, is_equal, is_strong, records_of}
 use Rattle.open_records.specs.Verdicts.{judge, may_enter}
 use Rattle.open_records.specs.Adding.{added, entered, is_full}
-use Rattle.open_records.specs.Leaving.{cut, cut_on, is_meant, is_named, naming, picked, swept}
-use Rattle.open_records.specs.declared.opened.Held.{Held}
-use Rattle.open_records.specs.declared.opened.Rec.{Rec}
+use Rattle.open_records.specs.Leaving.{cut, cut_on, is_meant, is_named, naming, with_places, swept}
+use Rattle.open_records.specs.declared.open_record.KeyedRecord.{KeyedRecord}
+use Rattle.open_records.specs.declared.open_record.Rec.{Rec}
 
 -- ---- a sound table
 
--- an interface has at most one record with a bit of 0x30
+-- an interface has at most one record with BY_DRIVER or EXCLUSIVE
 abbrev pub OneHolder : Type 0
-OneHolder = (table : Table) → IsSound table → (handle : ℕ) (guid : List ℕ) → count_by is_strong (records_of table.held handle guid) ≤ 1
+OneHolder =
+    (table : RecordTable) → IsSound table → (handle : ℕ) (guid : List ℕ)
+    → count_by is_strong (records_of table.entries handle guid) ≤ 1
 
 -- and at most one of an agent for a controller with an attribute
 abbrev pub NoEqualRecords : Type 0
 NoEqualRecords =
-    (table : Table) → IsSound table → (handle : ℕ) (guid : List ℕ) (agent controller attr : ℕ) → count_by (is_equal agent controller attr) (records_of table.held handle guid) ≤ 1
+    (table : RecordTable) → IsSound table → (handle : ℕ) (guid : List ℕ) (agent controller attr : ℕ)
+    → count_by (is_equal agent controller attr) (records_of table.entries handle guid) ≤ 1
 
 -- ---- what stays sound
 
--- an open that may be entered and is not one too many
+-- after an open that may be entered and is not one too many
 abbrev pub AddingKeeps : Type 0
 AddingKeeps =
-    (table : Table) → IsSound table → (handle : ℕ) (guid : List ℕ) (agent controller attr : ℕ)
-    → may_enter (judge (records_of table.held handle guid) agent controller attr) ≡ true → is_legal attr ≡ true → is_full handle guid agent controller attr table ≡ false
+    (table : RecordTable) → IsSound table → (handle : ℕ) (guid : List ℕ) (agent controller attr : ℕ)
+    → may_enter (judge (records_of table.entries handle guid) agent controller attr) ≡ true
+    → is_legal attr ≡ true → is_full handle guid agent controller attr table ≡ false
     → IsSound (added handle guid agent controller attr table)
 
+-- after records of one interface are removed
 abbrev pub CuttingKeeps : Type 0
-CuttingKeeps = (table : Table) → IsSound table → (handle : ℕ) (guid : List ℕ) (test : Rec → Bool) → IsSound (cut handle guid test table)
+CuttingKeeps =
+    (table : RecordTable) → IsSound table → (handle : ℕ) (guid : List ℕ) (test : Rec → Bool)
+    → IsSound (cut handle guid test table)
 
+-- after records of all interfaces of a handle are removed
 abbrev pub CuttingOnKeeps : Type 0
-CuttingOnKeeps = (table : Table) → IsSound table → (handle : ℕ) (test : Rec → Bool) → IsSound (cut_on handle test table)
+CuttingOnKeeps =
+    (table : RecordTable) → IsSound table → (handle : ℕ) (test : Rec → Bool) → IsSound (cut_on handle test table)
 
+-- after the records that name a handle are removed
 abbrev pub SweepingKeeps : Type 0
-SweepingKeeps = (table : Table) → IsSound table → (name : ℕ) → IsSound (swept name table)
+SweepingKeeps = (table : RecordTable) → IsSound table → (name : ℕ) → IsSound (swept name table)
 
 -- ---- one interface, and the others
 
@@ -44,44 +55,77 @@ SweepingKeeps = (table : Table) → IsSound table → (name : ℕ) → IsSound (
 abbrev pub is_same : ℕ → List ℕ → ℕ → List ℕ → Bool
 is_same handle guid other_handle other_guid = nat_eq handle other_handle && bytes_eq guid other_guid
 
+-- an open is one more record of its interface, or is counted there
 abbrev pub AddedHere : Type 0
 AddedHere =
-    (table : Table) → IsSound table → (handle : ℕ) (guid : List ℕ) (agent controller attr : ℕ)
-    → records_of (added handle guid agent controller attr table).held handle guid ≡ entered agent controller attr (records_of table.held handle guid)
+    (table : RecordTable) → IsSound table → (handle : ℕ) (guid : List ℕ) (agent controller attr : ℕ)
+    → records_of (added handle guid agent controller attr table).entries handle guid
+    ≡ entered agent controller attr (records_of table.entries handle guid)
 
+-- and leaves the records of every other interface
 abbrev pub AddedNotElsewhere : Type 0
 AddedNotElsewhere =
-    (table : Table) → IsSound table → (handle : ℕ) (guid : List ℕ) (agent controller attr other_handle : ℕ) (other_guid : List ℕ) → is_same handle guid other_handle other_guid ≡ false
-    → records_of (added handle guid agent controller attr table).held other_handle other_guid ≡ records_of table.held other_handle other_guid
+    (table : RecordTable) → IsSound table
+    → (handle : ℕ) (guid : List ℕ) (agent controller attr other_handle : ℕ) (other_guid : List ℕ)
+    → is_same handle guid other_handle other_guid ≡ false
+    → records_of (added handle guid agent controller attr table).entries other_handle other_guid
+    ≡ records_of table.entries other_handle other_guid
 
+-- a cut leaves the records of its interface that fail the test
 abbrev pub CutHere : Type 0
 CutHere =
-    (table : Table) (handle : ℕ) (guid : List ℕ) (test : Rec → Bool)
-    → records_of (cut handle guid test table).held handle guid ≡ filter (λ (rec : Rec). not (test rec)) (records_of table.held handle guid)
+    (table : RecordTable) (handle : ℕ) (guid : List ℕ) (test : Rec → Bool)
+    → records_of (cut handle guid test table).entries handle guid
+    ≡ filter (λ (rec : Rec). not (test rec)) (records_of table.entries handle guid)
 
+-- and all records of every other interface
 abbrev pub CutNotElsewhere : Type 0
 CutNotElsewhere =
-    (table : Table) (handle : ℕ) (guid : List ℕ) (test : Rec → Bool) (other_handle : ℕ) (other_guid : List ℕ) → is_same handle guid other_handle other_guid ≡ false
-    → records_of (cut handle guid test table).held other_handle other_guid ≡ records_of table.held other_handle other_guid
+    (table : RecordTable) (handle : ℕ) (guid : List ℕ) (test : Rec → Bool)
+    → (other_handle : ℕ) (other_guid : List ℕ) → is_same handle guid other_handle other_guid ≡ false
+    → records_of (cut handle guid test table).entries other_handle other_guid
+    ≡ records_of table.entries other_handle other_guid
 
+-- a cut on a handle leaves, of each interface of that handle, the records that fail the test
+abbrev pub CutOnHere : Type 0
+CutOnHere =
+    (table : RecordTable) (handle : ℕ) (test : Rec → Bool) (guid : List ℕ)
+    → records_of (cut_on handle test table).entries handle guid
+    ≡ filter (λ (rec : Rec). not (test rec)) (records_of table.entries handle guid)
+
+-- and all records of the interfaces of every other handle
+abbrev pub CutOnNotElsewhere : Type 0
+CutOnNotElsewhere =
+    (table : RecordTable) (handle : ℕ) (test : Rec → Bool)
+    → (other_handle : ℕ) (other_guid : List ℕ) → nat_eq handle other_handle ≡ false
+    → records_of (cut_on handle test table).entries other_handle other_guid
+    ≡ records_of table.entries other_handle other_guid
+
+-- a sweep leaves, of every interface, the records that do not name the handle
 abbrev pub SweptEverywhere : Type 0
 SweptEverywhere =
-    (table : Table) (name handle : ℕ) (guid : List ℕ)
-    → records_of (swept name table).held handle guid ≡ filter (λ (rec : Rec). not (is_named name rec)) (records_of table.held handle guid)
+    (table : RecordTable) (name handle : ℕ) (guid : List ℕ)
+    → records_of (swept name table).entries handle guid
+    ≡ filter (λ (rec : Rec). not (is_named name rec)) (records_of table.entries handle guid)
 
--- ---- what is gone
+-- ---- what is removed
 
--- whatever agent and controller, with one of the bits 0x3F: no record of the interface is left
+-- after a cut of whatever agent and controller, with any of the six bits, an interface has no record
 abbrev pub AllCut : Type 0
-AllCut = (table : Table) → IsSound table → (handle : ℕ) (guid : List ℕ) → records_of (cut handle guid (is_meant None None 0x3F) table).held handle guid ≡ []
+AllCut =
+    (table : RecordTable) → IsSound table → (handle : ℕ) (guid : List ℕ)
+    → records_of (cut handle guid (is_meant None None ALL_BITS) table).entries handle guid ≡ []
 
--- no record names a handle that was swept
+-- after a sweep no record names the handle
 abbrev pub NoneNamed : Type 0
-NoneNamed = (table : Table) (name : ℕ) → list_any (λ (one : Held). is_named name one.rec) (swept name table).held ≡ false
+NoneNamed =
+    (table : RecordTable) (name : ℕ)
+    → list_any (λ (one : KeyedRecord). is_named name one.rec) (swept name table).entries ≡ false
 
--- what a sweep gives of one interface is what goes of its list, each with its place there
+-- what a sweep reports of one interface is what it removes of its list, each record with its place there
 abbrev pub SweptPlaces : Type 0
 SweptPlaces =
-    (table : Table) (name handle : ℕ) (guid : List ℕ)
-    → map (λ (gone : ℕ × List ℕ × ℕ × Rec). (gone.2, gone.3)) (filter (λ (gone : ℕ × List ℕ × ℕ × Rec). is_same gone.0 gone.1 handle guid) (naming name table.held))
-    ≡ picked (is_named name) (records_of table.held handle guid)
+    (table : RecordTable) (name handle : ℕ) (guid : List ℕ)
+    → map (λ (one : ℕ × List ℕ × ℕ × Rec). (one.2, one.3))
+    (filter (λ (one : ℕ × List ℕ × ℕ × Rec). is_same one.0 one.1 handle guid) (naming name table.entries))
+    ≡ with_places (is_named name) (records_of table.entries handle guid)

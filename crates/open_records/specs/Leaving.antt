@@ -1,41 +1,45 @@
 -- Records that go (UEFI 2.8, 7.3: CloseProtocol, and the handles that go).
 use Rattle.std.specs.Prelude.{ℕ, ◌+◌, Bool, true, ◌&&◌, ◌||◌, not, nat_eq, List, [], ◌∷◌, ◌++◌, length, filter, Option, Some, None, if◌then◌else◌}
 use Rattle.fw_types.specs.Attr.{has_bit_of}
-use Rattle.open_records.specs.OpenRecords.{Table, is_of, records_of}
-use Rattle.open_records.specs.declared.opened.Rec.{Rec}
-use Rattle.open_records.specs.declared.opened.Held.{Held}
+use Rattle.open_records.specs.OpenRecords.{RecordTable, is_of, records_of}
+use Rattle.open_records.specs.declared.open_record.Rec.{Rec}
+use Rattle.open_records.specs.declared.open_record.KeyedRecord.{KeyedRecord}
 
 -- whether a number is the one that is given, if one is
 abbrev pub fits : Option ℕ → ℕ → Bool
 fits None number = true
 fits (Some given) number = nat_eq number given
 
--- whether a record is of an agent and of a controller, where they are given, and has one of some bits
+-- whether a record is of an agent, if one is given, and for a controller, if one is given, and has one of
+-- some bits
 abbrev pub is_meant : (agent controller : Option ℕ) (bits : ℕ) → Rec → Bool
 is_meant agent controller bits rec = fits agent rec.agent && fits controller rec.controller && has_bit_of bits rec.attr
 
--- the records of a list that pass a test, each with its place, where the first has this place
-abbrev pub picked_from : ℕ → (Rec → Bool) → List Rec → List (ℕ × Rec)
-picked_from place test [] = []
-picked_from place test (rec ∷ records) =
-    if test rec then (place, rec) ∷ picked_from (place + 1) test records else picked_from (place + 1) test records
+-- the records of a list that pass a test, each with its place; the first of the list has this place
+abbrev pub with_places_from : ℕ → (Rec → Bool) → List Rec → List (ℕ × Rec)
+with_places_from place test [] = []
+with_places_from place test (rec ∷ records) =
+    if test rec then (place, rec) ∷ with_places_from (place + 1) test records else with_places_from (place + 1) test records
 
-abbrev pub picked : (Rec → Bool) → List Rec → List (ℕ × Rec)
-picked test records = picked_from 0 test records
+-- the records of a list that pass a test, each with its place from 0
+abbrev pub with_places : (Rec → Bool) → List Rec → List (ℕ × Rec)
+with_places test records = with_places_from 0 test records
 
 -- without the records that are of an interface and pass a test
-abbrev pub without : ℕ → List ℕ → (Rec → Bool) → List Held → List Held
-without handle guid test held = filter (λ (one : Held). not (is_of handle guid one && test one.rec)) held
+abbrev pub without : ℕ → List ℕ → (Rec → Bool) → List KeyedRecord → List KeyedRecord
+without handle guid test entries = filter (λ (one : KeyedRecord). not (is_of handle guid one && test one.rec)) entries
 
-abbrev pub cut : ℕ → List ℕ → (Rec → Bool) → Table → Table
-cut handle guid test table = record table { held = without handle guid test table.held }
+-- the table without the records that are of an interface and pass a test
+abbrev pub cut : ℕ → List ℕ → (Rec → Bool) → RecordTable → RecordTable
+cut handle guid test table = record table { entries = without handle guid test table.entries }
 
 -- without the records of a handle that pass a test, on whatever interface
-abbrev pub without_on : ℕ → (Rec → Bool) → List Held → List Held
-without_on handle test held = filter (λ (one : Held). not (nat_eq one.handle handle && test one.rec)) held
+abbrev pub without_on : ℕ → (Rec → Bool) → List KeyedRecord → List KeyedRecord
+without_on handle test entries = filter (λ (one : KeyedRecord). not (nat_eq one.handle handle && test one.rec)) entries
 
-abbrev pub cut_on : ℕ → (Rec → Bool) → Table → Table
-cut_on handle test table = record table { held = without_on handle test table.held }
+-- the table without the records of a handle that pass a test, on whatever interface
+abbrev pub cut_on : ℕ → (Rec → Bool) → RecordTable → RecordTable
+cut_on handle test table = record table { entries = without_on handle test table.entries }
 
 -- ---- a handle that goes
 
@@ -44,20 +48,22 @@ abbrev pub is_named : ℕ → Rec → Bool
 is_named name rec = nat_eq rec.agent name || nat_eq rec.controller name
 
 -- the records that name a handle, each with its interface and its place in the list of that interface,
--- where these stand behind others
-abbrev pub naming_behind : List Held → ℕ → List Held → List (ℕ × List ℕ × ℕ × Rec)
-naming_behind before name [] = []
-naming_behind before name (one ∷ held) =
+-- if these records come after others
+abbrev pub naming_after : List KeyedRecord → ℕ → List KeyedRecord → List (ℕ × List ℕ × ℕ × Rec)
+naming_after before name [] = []
+naming_after before name (one ∷ entries) =
     if is_named name one.rec
-    then (one.handle, one.guid, length (records_of before one.handle one.guid), one.rec) ∷ naming_behind (before ++ one ∷ []) name held
-    else naming_behind (before ++ one ∷ []) name held
+    then (one.handle, one.guid, length (records_of before one.handle one.guid), one.rec) ∷ naming_after (before ++ one ∷ []) name entries
+    else naming_after (before ++ one ∷ []) name entries
 
-abbrev pub naming : ℕ → List Held → List (ℕ × List ℕ × ℕ × Rec)
-naming name held = naming_behind [] name held
+-- the records that name a handle, each with its interface and its place in the list of that interface
+abbrev pub naming : ℕ → List KeyedRecord → List (ℕ × List ℕ × ℕ × Rec)
+naming name entries = naming_after [] name entries
 
 -- without the records that name a handle
-abbrev pub without_name : ℕ → List Held → List Held
-without_name name held = filter (λ (one : Held). not (is_named name one.rec)) held
+abbrev pub without_name : ℕ → List KeyedRecord → List KeyedRecord
+without_name name entries = filter (λ (one : KeyedRecord). not (is_named name one.rec)) entries
 
-abbrev pub swept : ℕ → Table → Table
-swept name table = record table { held = without_name name table.held }
+-- the table without the records that name a handle
+abbrev pub swept : ℕ → RecordTable → RecordTable
+swept name table = record table { entries = without_name name table.entries }

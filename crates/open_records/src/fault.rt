@@ -5,13 +5,13 @@ use fw_types::OutOfMemory;
 use std::alloc::AllocFailed;
 use thiserror::Error;
 
-/// Why an open was not entered.
+/// Why an open is not entered.
 #[derive(Clone, Copy, Debug, PartialEq, Eq, Error)]
 pub enum RecFault {
     /// There are as many records as there may be.
     #[error("there are as many open records as there may be")]
     Full,
-    /// There was no memory.
+    /// There is no memory.
     #[error("out of memory")]
     OutOfMemory,
 }

@@ -1,15 +1,16 @@
 //! Laws of the records' single changes, over the definitions alone. Each is the contract of a function
-//! with no code.
+//! without code.
 
-ghost use Rattle.open_records.specs.Laws.{AddedHere, AddedNotElsewhere, AddingKeeps, AllCut, CutHere, CutNotElsewhere, CuttingKeeps, CuttingOnKeeps, NoEqualRecords, NoneNamed, OneHolder, SweepingKeeps, SweptEverywhere, SweptPlaces};
+ghost use Rattle.open_records.specs.Laws.{AddedHere, AddedNotElsewhere, AddingKeeps, AllCut, CutHere, CutNotElsewhere, CutOnHere, CutOnNotElsewhere, CuttingKeeps, CuttingOnKeeps, NoEqualRecords, NoneNamed, OneHolder, SweepingKeeps, SweptEverywhere, SweptPlaces};
 
-/// An interface of a sound table has at most one record with a bit of 0x30, and no two equal ones.
+/// An interface of a sound table has at most one record with BY_DRIVER or EXCLUSIVE, and no two records of
+/// the same agent, controller and attribute.
 pub fn records_stand_apart()
     ensures holder { OneHolder }
     ensures equal { NoEqualRecords }
 {}
 
-/// Entering an open that may be entered, cutting and sweeping leave a sound table.
+/// After an open that may be entered, after a cut and after a sweep, a sound table is sound.
 pub fn changes_keep()
     ensures adding { AddingKeeps }
     ensures cutting { CuttingKeeps }
@@ -17,17 +18,20 @@ pub fn changes_keep()
     ensures sweeping { SweepingKeeps }
 {}
 
-/// What a change does to the records of one interface, and that it leaves those of the others.
+/// What a change does to the records of one interface, and that it leaves those of the others. A cut on a
+/// handle changes each of its interfaces and leaves those of the other handles.
 pub fn interfaces_change()
     ensures added { AddedHere }
     ensures added_not_elsewhere { AddedNotElsewhere }
     ensures cut { CutHere }
     ensures cut_not_elsewhere { CutNotElsewhere }
+    ensures cut_on { CutOnHere }
+    ensures cut_on_not_elsewhere { CutOnNotElsewhere }
     ensures swept { SweptEverywhere }
 {}
 
 /// After a cut of all its records an interface has none, and after a sweep no record names the handle.
-/// What a sweep gives of one interface is what goes of its list, each record with its place there.
+/// What a sweep reports of one interface is what it removes of its list, each record with its place there.
 pub fn records_go()
     ensures cut { AllCut }
     ensures swept { NoneNamed }

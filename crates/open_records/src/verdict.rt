@@ -1,32 +1,31 @@
 ghost use Rattle.std.specs.Prelude.{◌≡◌, ◌≤◌, Some, count_by, find, if◌then◌else◌};
 ghost use Rattle.std.specs.List.{list_any};
 ghost use Rattle.fw_types.specs.Attr.{has_bit_of};
-ghost use Rattle.open_records.specs.declared.verdict.Verdict.TheVariants.{Add as Added, Count as Counted, Already as Again, Denied as Kept};
 ghost use Rattle.open_records.specs.OpenRecords.{is_equal, is_strong};
-ghost use Rattle.open_records.specs.Verdicts.{against as said_against, judge as said, may_enter as enters};
+ghost use Rattle.open_records.specs.Verdicts.{against, judge, may_enter};
 
-use crate::opened::Rec;
+use crate::open_record::Rec;
 use fw_types::Attr;
 
 /// What the records of an interface say to one more open.
 #[derive(Clone, Copy, Debug, PartialEq, Eq)]
 pub enum Verdict {
-    /// It is entered as one more record.
+    /// The open is entered as one more record.
     Add,
-    /// It is counted by the equal record that stands.
+    /// The open is counted by the equal record that is there.
     Count,
-    /// The agent has the interface open already, as its driver.
+    /// The agent already has the interface open as its driver.
     Already,
-    /// Another open keeps it out.
+    /// Another open excludes this one.
     Denied,
-    /// It has to wait until the driver with this handle number is disconnected.
+    /// The open has to wait until the driver with this handle number is disconnected.
     MustDisconnect(u64),
 }
 
 impl Verdict {
-    /// Whether the open may be entered: whether it is `Add` or `Count`.
+    /// Whether the open may be entered: whether the verdict is `Add` or `Count`.
     pub fn may_enter(self) -> bool
-        ensures { result ≡ enters self }
+        ensures { result ≡ may_enter self }
     {
         match self {
             Verdict::Add | Verdict::Count => true,
@@ -35,17 +34,21 @@ impl Verdict {
     }
 }
 
-/// What a list of records of one interface says to an open by an agent for a controller, 0 where for
-/// none (UEFI 2.8, 7.3: OpenProtocol). `list` has at most one record with a bit of 0x30.
+/// What the records of one interface say to one more open, by an agent for a controller (UEFI 2.8, 7.3:
+/// OpenProtocol). `controller` is 0 if the open is for none. `list` has at most one record with BY_DRIVER
+/// or EXCLUSIVE. Takes no memory.
 ///
-/// With 0x01, 0x02, 0x04 and 0x08 it is `Count` where a record has the same agent, controller and
-/// attribute, and else `Add`. The others go by the record with a bit of 0x30, and are `Add` where there
-/// is none: with 0x10, `Already` by a record 0x10 of the same agent, and else `Denied`; with 0x20,
-/// `MustDisconnect` by a record 0x10, and else `Denied`; with 0x30, `MustDisconnect` by a record 0x10,
-/// `Already` by a record 0x30 of the same agent, and else `Denied`. Takes no memory.
+/// An open with neither of them is `Count` if a record has the same agent, controller and attribute, and
+/// else `Add`. An open with BY_DRIVER or EXCLUSIVE is `Add` if no record has one of them. If one has:
+///
+/// - an open with BY_DRIVER alone is `Already` if that record has BY_DRIVER alone and is of the same agent,
+///   and else `Denied`;
+/// - an open with EXCLUSIVE alone is `MustDisconnect` if that record has BY_DRIVER alone, and else `Denied`;
+/// - an open with both is `MustDisconnect` if that record has BY_DRIVER alone, `Already` if it has both and
+///   is of the same agent, and else `Denied`.
 pub fn judge(list: &[Rec], agent: u64, controller: u64, attr: Attr) -> Verdict
     requires { count_by is_strong list.now ≤ 1 }
-    ensures { result ≡ said list.now agent controller attr }
+    ensures { result ≡ judge list.now agent controller attr }
 {
     verdict_of(
         strong_in(list),
@@ -55,11 +58,13 @@ pub fn judge(list: &[Rec], agent: u64, controller: u64, attr: Attr) -> Verdict
     )
 }
 
-/// What is said by the record with a bit of 0x30, if there is one, and by whether an equal record stands.
+/// The verdict by the record with BY_DRIVER or EXCLUSIVE, if there is one, and by whether there is an equal
+/// record.
 pub(crate) fn verdict_of(strong: Option<Rec>, equal: bool, agent: u64, attr: Attr) -> Verdict
-    ensures { result ≡ (if has_bit_of 0x30 attr then said_against strong agent attr else if equal then Counted else Added) }
+    ensures { let by_count = if equal then Verdict.Count else Verdict.Add in
+        result ≡ (if has_bit_of Attr.HOLDING_BITS attr then against strong agent attr else by_count) }
 {
-    if attr.has_bit_of(0x30) {
+    if attr.has_bit_of(Attr::HOLDING_BITS) {
         match strong {
             None => Verdict::Add,
             Some(holder) => against(&holder, agent, attr),
@@ -71,24 +76,24 @@ pub(crate) fn verdict_of(strong: Option<Rec>, equal: bool, agent: u64, attr: Att
     }
 }
 
-/// What is said to an open with a bit of 0x30 where a record with such a bit stands.
+/// The verdict on an open with BY_DRIVER or EXCLUSIVE, by a record that has one of them.
 fn against(holder: &Rec, agent: u64, attr: Attr) -> Verdict
-    ensures { result ≡ said_against (Some holder.now) agent attr }
+    ensures { result ≡ against (Some holder.now) agent attr }
 {
     let own = holder.agent == agent;
     let disconnect = Verdict::MustDisconnect(holder.agent);
     match (attr.bits(), holder.attr.bits()) {
-        (0x20, 0x10) => disconnect,
-        (0x30, 0x10) => disconnect,
-        (0x10, 0x10) => driver_again(own),
-        (0x30, 0x30) => driver_again(own),
+        (Attr::EXCLUSIVE, Attr::BY_DRIVER) => disconnect,
+        (Attr::HOLDING_BITS, Attr::BY_DRIVER) => disconnect,
+        (Attr::BY_DRIVER, Attr::BY_DRIVER) => driver_again(own),
+        (Attr::HOLDING_BITS, Attr::HOLDING_BITS) => driver_again(own),
         _ => Verdict::Denied,
     }
 }
 
-/// What is said to a driver where a record with the same attribute stands, its own or another's.
+/// The verdict on a driver's open by a record with the same attribute, its own or another driver's.
 fn driver_again(own: bool) -> Verdict
-    ensures { result ≡ (if own then Again else Kept) }
+    ensures { result ≡ (if own then Verdict.Already else Verdict.Denied) }
 {
     if own {
         Verdict::Already
@@ -97,12 +102,14 @@ fn driver_again(own: bool) -> Verdict
     }
 }
 
+/// The first record with BY_DRIVER or EXCLUSIVE.
 fn strong_in(list: &[Rec]) -> Option<Rec>
     ensures { result ≡ find is_strong list.now }
 {
     list.iter().copied().find(|rec| rec.is_strong())
 }
 
+/// Whether a record is of an agent for a controller with an attribute.
 fn equal_in(list: &[Rec], agent: u64, controller: u64, attr: Attr) -> bool
     ensures { result ≡ list_any (is_equal agent controller attr) list.now }
 {

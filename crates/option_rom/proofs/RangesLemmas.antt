@@ -4,19 +4,19 @@ use Rattle.std.proofs.lemmas.List.{drop-drop}
 use Rattle.fw_types.specs.declared.image.RomEnd.{RomEnd}
 use Rattle.fw_types.specs.declared.image.RomEnd.TheVariants.{Done}
 use Rattle.option_rom.specs.RomGrammar.{end_at, image_at, image_length, is_last, rom_from, rom_in}
-use Rattle.option_rom.specs.RomRanges.{EndsAs, IsImage, IsRomFrom, OnlyLastSaysSo, Range, behind, end_of, images_in, last_says_so, says_last}
-use Rattle.option_rom.specs.RomRead.{StandsHere}
+use Rattle.option_rom.specs.RomRanges.{EndsAs, IsImage, IsRomFrom, OnlyLastSaysSo, Range, place_after, range_end, images_in, last_says_so, says_last}
+use Rattle.option_rom.specs.RomRead.{HasImage}
 use Rattle.option_rom.proofs.RomLemmas.{end_at-none, rom_in-step}
 
 -- ---- ranges are the ROM
 
--- behind a range that does not say that it is the last, the others are the ROM
-others_from : (place : ℕ) (rom : List ℕ) (range : Range) (ranges : List Range) (end : RomEnd) → IsRomFrom place rom (range ∷ ranges) end → says_last rom range ≡ false → IsRomFrom (end_of range) rom ranges end
+-- after a range that does not say that it is the last, the others are the ROM
+others_from : (place : ℕ) (rom : List ℕ) (range : Range) (ranges : List Range) (end : RomEnd) → IsRomFrom place rom (range ∷ ranges) end → says_last rom range ≡ false → IsRomFrom (range_end range) rom ranges end
 others_from place rom range [] end is more = record {
   in_a_row = is.in_a_row.1;
   images = is.images.1;
   only_last = tt;
-  ends = let Ends : Bool → Type 0 = λ b. EndsAs b rom (end_of range) end in subst Ends more is.ends;
+  ends = let Ends : Bool → Type 0 = λ b. EndsAs b rom (range_end range) end in subst Ends more is.ends;
 }
 others_from place rom range (next ∷ ranges) end is more = record {
   in_a_row = is.in_a_row.1;
@@ -25,29 +25,29 @@ others_from place rom range (next ∷ ranges) end is more = record {
   ends = is.ends;
 }
 
--- behind a range that does, there is none, and the ROM is done
-none_behind : (place : ℕ) (rom : List ℕ) (range : Range) (ranges : List Range) (end : RomEnd) → IsRomFrom place rom (range ∷ ranges) end → says_last rom range ≡ true → (ranges ≡ []) × (end ≡ Done)
-none_behind place rom range [] end is last = (refl, let Ends : Bool → Type 0 = λ b. EndsAs b rom (end_of range) end in subst Ends last is.ends)
-none_behind place rom range (next ∷ ranges) end is last = let no : false ≡ true = sym is.only_last.0 ∙ last in absurd cc
+-- after a range that does, there is none, and the ROM is done
+none_after : (place : ℕ) (rom : List ℕ) (range : Range) (ranges : List Range) (end : RomEnd) → IsRomFrom place rom (range ∷ ranges) end → says_last rom range ≡ true → (ranges ≡ []) × (end ≡ Done)
+none_after place rom range [] end is last = (refl, let Ends : Bool → Type 0 = λ b. EndsAs b rom (range_end range) end in subst Ends last is.ends)
+none_after place rom range (next ∷ ranges) end is last = let no : false ≡ true = sym is.only_last.0 ∙ last in absurd cc
 
 -- the ROM from the place of an image on
-from_image : (place : ℕ) (rom : List ℕ) (range : Range) → range.at ≡ place → IsImage rom range → rom_in (drop place rom) ≡ rom_from None (says_last rom range) (image_at (drop range.at rom)) (rom_in (drop (end_of range) rom))
+from_image : (place : ℕ) (rom : List ℕ) (range : Range) → range.at ≡ place → IsImage rom range → rom_in (drop place rom) ≡ rom_from None (says_last rom range) (image_at (drop range.at rom)) (rom_in (drop (range_end range) rom))
 from_image place rom range here image =
     let rest = drop range.at rom in
-    let next : drop (image_length rest) rest ≡ drop (end_of range) rom = drop-drop (image_length rest) range.at rom ∙ ap (λ (n : ℕ). drop (range.at + n) rom) (sym image.size) in
+    let next : drop (image_length rest) rest ≡ drop (range_end range) rom = drop-drop (image_length rest) range.at rom ∙ ap (λ (n : ℕ). drop (range.at + n) rom) (sym image.size) in
     ap (λ (n : ℕ). rom_in (drop n rom)) (sym here)
     ∙ rom_in-step rest
     ∙ ap (λ e. rom_from e (is_last rest) (image_at rest) (rom_in (drop (image_length rest) rest))) image.passes
     ∙ ap (λ xs. rom_from None (is_last rest) (image_at rest) (rom_in xs)) next
 
 by_mark : (place : ℕ) (rom : List ℕ) (range : Range) (ranges : List Range) (end : RomEnd) → IsRomFrom place rom (range ∷ ranges) end → (last : Bool) → says_last rom range ≡ last
-    → (says_last rom range ≡ false → rom_in (drop (end_of range) rom) ≡ record { images = images_in rom ranges; end = end })
-    → rom_from None (says_last rom range) (image_at (drop range.at rom)) (rom_in (drop (end_of range) rom)) ≡ record { images = images_in rom (range ∷ ranges); end = end }
+    → (says_last rom range ≡ false → rom_in (drop (range_end range) rom) ≡ record { images = images_in rom ranges; end = end })
+    → rom_from None (says_last rom range) (image_at (drop range.at rom)) (rom_in (drop (range_end range) rom)) ≡ record { images = images_in rom (range ∷ ranges); end = end }
 by_mark place rom range ranges end is true last others =
-    let alone = none_behind place rom range ranges end is last in
+    let alone = none_after place rom range ranges end is last in
     rw (last, alone.0, alone.1) refl
 by_mark place rom range ranges end is false last others =
-    ap (λ b. rom_from None b (image_at (drop range.at rom)) (rom_in (drop (end_of range) rom))) last ∙ ap (rom_from None false (image_at (drop range.at rom))) (others last)
+    ap (λ b. rom_from None b (image_at (drop range.at rom)) (rom_in (drop (range_end range) rom))) last ∙ ap (rom_from None false (image_at (drop range.at rom))) (others last)
 
 pub rom_in-ranges : (place : ℕ) (rom : List ℕ) (ranges : List Range) (end : RomEnd) → IsRomFrom place rom ranges end → rom_in (drop place rom) ≡ record { images = images_in rom ranges; end = end }
 rom_in-ranges place rom [] end is =
@@ -55,7 +55,7 @@ rom_in-ranges place rom [] end is =
     rom_in-step rest ∙ ap (λ e. rom_from e (is_last rest) (image_at rest) (rom_in (drop (image_length rest) rest))) is.ends
 rom_in-ranges place rom (range ∷ ranges) end is =
     from_image place rom range is.in_a_row.0 is.images.0
-    ∙ by_mark place rom range ranges end is (says_last rom range) refl (λ more. rom_in-ranges (end_of range) rom ranges end (others_from place rom range ranges end is more))
+    ∙ by_mark place rom range ranges end is (says_last rom range) refl (λ more. rom_in-ranges (range_end range) rom ranges end (others_from place rom range ranges end is more))
 
 -- ---- one way
 
@@ -64,7 +64,7 @@ same_range range other at size =
     let moved : range ≡ record { at = other.at; size = range.size } = ap (λ (n : ℕ). record { at = n; size = range.size }) at in
     moved ∙ ap (λ (n : ℕ). record { at = other.at; size = n }) size
 
--- no image stands where the ROM ends
+-- there is no image where the ROM ends
 no_image : (place : ℕ) (rom : List ℕ) (range : Range) (end : RomEnd) → end_at (drop place rom) ≡ Some end → range.at ≡ place → IsImage rom range → ⊥
 no_image place rom range end none here image =
     let no : None ≡ Some end = sym image.passes ∙ ap (λ (n : ℕ). end_at (drop n rom)) here ∙ none in cc
@@ -72,7 +72,7 @@ no_image place rom range end none here image =
 same_more : (place : ℕ) (rom : List ℕ) (range other : Range) (ranges others : List Range) (end last : RomEnd) → IsRomFrom place rom (range ∷ ranges) end → IsRomFrom place rom (other ∷ others) last → range ≡ other → (mark : Bool) → says_last rom range ≡ mark
     → (says_last rom range ≡ false → says_last rom other ≡ false → ranges ≡ others) → ranges ≡ others
 same_more place rom range other ranges others end last is too same true mark rest =
-    (none_behind place rom range ranges end is mark).0 ∙ sym (none_behind place rom other others last too (ap (says_last rom) (sym same) ∙ mark)).0
+    (none_after place rom range ranges end is mark).0 ∙ sym (none_after place rom other others last too (ap (says_last rom) (sym same) ∙ mark)).0
 same_more place rom range other ranges others end last is too same false mark rest = rest mark (ap (says_last rom) (sym same) ∙ mark)
 
 pub same_ranges : (place : ℕ) (rom : List ℕ) (ranges others : List Range) (end last : RomEnd) → IsRomFrom place rom ranges end → IsRomFrom place rom others last → ranges ≡ others
@@ -84,8 +84,8 @@ same_ranges place rom (range ∷ ranges) (other ∷ others) end last is too =
     let size : range.size ≡ other.size = is.images.0.size ∙ ap (λ (n : ℕ). image_length (drop n rom)) at ∙ sym too.images.0.size in
     let same = same_range range other at size in
     let rest = same_more place rom range other ranges others end last is too same (says_last rom range) refl (λ more more_too.
-    same_ranges (end_of range) rom ranges others end last (others_from place rom range ranges end is more)
-    (subst (λ (r : Range). IsRomFrom (end_of r) rom others last) (sym same) (others_from place rom other others last too more_too))) in
+    same_ranges (range_end range) rom ranges others end last (others_from place rom range ranges end is more)
+    (subst (λ (r : Range). IsRomFrom (range_end r) rom others last) (sym same) (others_from place rom other others last too more_too))) in
     ap (λ (r : Range). r ∷ ranges) same ∙ ap (λ (rs : List Range). other ∷ rs) rest
 
 -- ---- some way
@@ -114,7 +114,7 @@ last_more rom range [] more = more
 last_more rom range (next ∷ ranges) more = refl
 
 divided_here : (place : ℕ) (rom : List ℕ) (end : Option RomEnd) (last : Bool) → end_at (drop place rom) ≡ end → is_last (drop place rom) ≡ last
-    → (StandsHere (drop place rom) → Divided (place + image_length (drop place rom)) rom) → Divided place rom
+    → (HasImage (drop place rom) → Divided (place + image_length (drop place rom)) rom) → Divided place rom
 divided_here place rom (Some end) last none mark others =
     let rest = drop place rom in
     let whole : rom_in rest ≡ record { images = []; end = end } = rom_in-step rest ∙ ap (λ e. rom_from e (is_last rest) (image_at rest) (rom_in (drop (image_length rest) rest))) none in
@@ -125,11 +125,11 @@ divided_here place rom (Some end) last none mark others =
     }
 divided_here place rom None true stands mark others =
     let rest = drop place rom in
-    let behind = rom_in (drop (image_length rest) rest) in
+    let following = rom_in (drop (image_length rest) rest) in
     let range : Range = record { at = place; size = image_length rest } in
     let whole : rom_in rest ≡ record { images = image_at rest ∷ []; end = Done } =
-    rom_in-step rest ∙ ap (λ e. rom_from e (is_last rest) (image_at rest) behind) stands ∙ ap (λ b. rom_from None b (image_at rest) behind) mark in
-    let Ends : Bool → Type 0 = λ b. EndsAs b rom (end_of range) (rom_in rest).end in
+    rom_in-step rest ∙ ap (λ e. rom_from e (is_last rest) (image_at rest) following) stands ∙ ap (λ b. rom_from None b (image_at rest) following) mark in
+    let Ends : Bool → Type 0 = λ b. EndsAs b rom (range_end range) (rom_in rest).end in
     record {
       ranges = range ∷ [];
       is_rom = record {
@@ -144,11 +144,11 @@ divided_here place rom None false stands mark others =
     let rest = drop place rom in
     let range : Range = record { at = place; size = image_length rest } in
     let next = others (end_at-none rest stands) in
-    let whole : rom_in rest ≡ rom_from None false (image_at rest) (rom_in (drop (end_of range) rom)) =
-    from_image place rom range refl (image_here place rom stands) ∙ ap (λ b. rom_from None b (image_at rest) (rom_in (drop (end_of range) rom))) mark in
-    let end : (rom_in rest).end ≡ (rom_in (drop (end_of range) rom)).end = ap (λ r. r.end) whole in
-    let Ends : Bool → Type 0 = λ b. EndsAs b rom (behind (end_of range) next.ranges) (rom_in rest).end in
-    let Told : RomEnd → Type 0 = λ e. EndsAs (last_says_so rom next.ranges) rom (behind (end_of range) next.ranges) e in
+    let whole : rom_in rest ≡ rom_from None false (image_at rest) (rom_in (drop (range_end range) rom)) =
+    from_image place rom range refl (image_here place rom stands) ∙ ap (λ b. rom_from None b (image_at rest) (rom_in (drop (range_end range) rom))) mark in
+    let end : (rom_in rest).end ≡ (rom_in (drop (range_end range) rom)).end = ap (λ r. r.end) whole in
+    let Ends : Bool → Type 0 = λ b. EndsAs b rom (place_after (range_end range) next.ranges) (rom_in rest).end in
+    let Told : RomEnd → Type 0 = λ e. EndsAs (last_says_so rom next.ranges) rom (place_after (range_end range) next.ranges) e in
     record {
       ranges = range ∷ next.ranges;
       is_rom = record {

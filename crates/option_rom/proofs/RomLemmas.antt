@@ -3,14 +3,15 @@ use Rattle.std.proofs.Common.{◌≡◌, ◌≤◌, ◌+◌, ◌-◌, ◌*◌, �
 use Rattle.std.specs.Prelude.{option_map}
 use Rattle.std.proofs.lemmas.Bool.Decides.{nat_tests}
 use Rattle.fw_types.specs.declared.image.RomEnd.{RomEnd}
-use Rattle.option_rom.specs.RomGrammar.{Condition, Image, Rom, end_at, has_no_length, image_at, image_length, is_cut_off, is_last, lacks_header, lacks_pcir, pcir_place, rom_from, rom_in, rom_within, word_at, pcir}
-use Rattle.option_rom.specs.RomRead.{StandsHere}
+use Rattle.fw_types.specs.Layout.{uint16_at}
+use Rattle.option_rom.specs.RomGrammar.{Condition, Image, Rom, end_at, has_no_length, image_at, image_length, is_cut_off, is_last, lacks_header, lacks_pcir, pcir_place, rom_from, rom_in, rom_within, pcir}
+use Rattle.option_rom.specs.RomRead.{HasImage}
 use Rattle.option_rom.specs.RomWalk.{Walk, walk_of, walk_at}
 use Rattle.option_rom.specs.declared.walk.Place.{Place}
-use Rattle.option_rom.specs.declared.walk.Place.TheVariants.{Reading, BehindLast}
+use Rattle.option_rom.specs.declared.walk.Place.TheVariants.{Reading, AfterLast}
 use Rattle.std.proofs.lemmas.List.{take_rest}
 
--- an image stands where no condition holds
+-- there is an image if no condition holds
 record NoneHolds (a b c d : Bool) : Type 0 where
   first : a ≡ false
   second : b ≡ false
@@ -35,7 +36,7 @@ units-some : (n : ℕ) → nat_eq (512 * n) 0 ≡ false → 512 ≤ 512 * n
 units-some zero h = absurd cc
 units-some (suc n) h = omega arith
 
-pub end_at-none : (rest : List ℕ) → end_at rest ≡ None → StandsHere rest
+pub end_at-none : (rest : List ℕ) → end_at rest ≡ None → HasImage rest
 end_at-none rest h =
     let holds = none_holds (lacks_header rest) (lacks_pcir rest) (has_no_length rest) (is_cut_off rest) _ _ _ _ h in
     record {
@@ -43,11 +44,11 @@ end_at-none rest h =
         header = nat_lt-false (length rest) 26 (left_false _ _ holds.first);
         pcir = nat_lt-false (length rest) (pcir_place rest + 24) (left_false _ _ holds.second);
       };
-      some = units-some (word_at 16 (pcir rest)) holds.third;
+      some = units-some (uint16_at 16 (pcir rest)) holds.third;
       inside = nat_lt-false (length rest) (image_length rest) holds.fourth;
     }
 
--- what is behind counts only where an image stands
+-- what follows counts only if there is an image
 rom_from-same : (end : Option RomEnd) (last : Bool) (image : Image) (one other : Rom) → (end ≡ None → one ≡ other) → rom_from end last image one ≡ rom_from end last image other
 rom_from-same (Some end) last image one other same = refl
 rom_from-same None last image one other same = ap (rom_from None last image) (same refl)
@@ -66,20 +67,20 @@ rom_within-enough (suc n) (suc m) rest h k =
     let size = length-drop (image_length rest) rest in
     rom_within-enough n m (drop (image_length rest) rest) (omega (arith, size, stands.some, h)) (omega (arith, size, stands.some, k)))
 
--- the ROM is an end, an image alone, or an image and the ROM behind it
+-- the ROM is an end, an image alone, or an image and the ROM after it
 pub rom_in-step : (rest : List ℕ) → rom_in rest ≡ rom_from (end_at rest) (is_last rest) (image_at rest) (rom_in (drop (image_length rest) rest))
 unfolding rom_in rom_within
 rom_in-step [] = refl
 rom_in-step (b ∷ bytes) =
     let rest = b ∷ bytes in
-    let behind = drop (image_length rest) rest in
-    rom_from-same (end_at rest) (is_last rest) (image_at rest) (rom_within (length bytes) behind) (rom_within (length behind) behind) (λ none.
+    let following = drop (image_length rest) rest in
+    rom_from-same (end_at rest) (is_last rest) (image_at rest) (rom_within (length bytes) following) (rom_within (length following) following) (λ none.
     let stands = end_at-none rest none in
-    rom_within-enough (length bytes) (length behind) behind (omega (arith, length-drop (image_length rest) rest, stands.some)) (omega arith))
+    rom_within-enough (length bytes) (length following) following (omega (arith, length-drop (image_length rest) rest, stands.some)) (omega arith))
 
 -- ---- how many images there are
 
--- one image more, where one stands
+-- one image more, if there is one
 images-more : (end : Option RomEnd) (last : Bool) (image : Image) (more : Rom) (size : ℕ) (rest : List ℕ) → (end ≡ None → (512 ≤ size) × (size ≤ length rest)) → 512 * length more.images ≤ length rest - size
     → 512 * length (rom_from end last image more).images ≤ length rest
 images-more (Some end) last image more size rest stands fewer = omega arith
@@ -90,10 +91,10 @@ images-within : (most : ℕ) (rest : List ℕ) → 512 * length (rom_within most
 unfolding rom_within
 images-within zero rest = omega arith
 images-within (suc most) rest =
-    let behind = drop (image_length rest) rest in
-    images-more (end_at rest) (is_last rest) (image_at rest) (rom_within most behind) (image_length rest) rest
+    let following = drop (image_length rest) rest in
+    images-more (end_at rest) (is_last rest) (image_at rest) (rom_within most following) (image_length rest) rest
     (λ none. let stands = end_at-none rest none in (stands.some, stands.inside))
-    (omega (arith, images-within most behind, length-drop (image_length rest) rest))
+    (omega (arith, images-within most following, length-drop (image_length rest) rest))
 
 pub images-most : (bytes : List ℕ) → 512 * length (rom_in bytes).images ≤ length bytes
 unfolding rom_in
@@ -101,7 +102,7 @@ images-most bytes = images-within (length bytes) bytes
 
 -- ---- a step of the walk
 
--- no image stands in front of the walk
+-- there is no image at the front of the walk
 pub walk_at-end : (rest : List ℕ) (place : Place) (walk : Walk) (end : RomEnd) → place ≡ Reading → walk_at rest place ≡ walk → Some end ≡ end_at rest → (walk.images ≡ []) × (walk.end ≡ end)
 walk_at-end rest place walk end here view none =
     let rom : rom_in rest ≡ record { images = []; end = end } = rom_in-step rest ∙ ap (λ e. rom_from e (is_last rest) (image_at rest) (rom_in (drop (image_length rest) rest))) (sym none) in
@@ -110,22 +111,22 @@ walk_at-end rest place walk end here view none =
       ap (λ w. w.end) (sym before) ∙ ap (λ r. r.end) rom,
     )
 
--- an image stands there, and the walk behind it is of what is left
-walk_behind : (last : Bool) (rest : List ℕ) (image : Image) (behind : List ℕ) → let after = walk_at behind (if last then BehindLast else Reading) in
-    rom_from None last image (rom_in behind) ≡ record { images = image ∷ after.images; end = after.end }
-walk_behind true rest image behind = refl
-walk_behind false rest image behind = refl
+-- there is an image, and the walk after it is of what is left
+walk_after : (last : Bool) (rest : List ℕ) (image : Image) (following : List ℕ) → let after = walk_at following (if last then AfterLast else Reading) in
+    rom_from None last image (rom_in following) ≡ record { images = image ∷ after.images; end = after.end }
+walk_after true rest image following = refl
+walk_after false rest image following = refl
 
 pub walk_at-image : (rest : List ℕ) (place : Place) (walk : Walk) (size : ℕ) (image : Image) (after : Place) → place ≡ Reading → walk_at rest place ≡ walk → None ≡ end_at rest → size ≡ image_length rest → image ≡ image_at rest
-    → after ≡ (if is_last rest then BehindLast else Reading)
+    → after ≡ (if is_last rest then AfterLast else Reading)
     → let left = walk_at (take (length rest - size) (drop size rest)) after in (walk.images ≡ image ∷ left.images) × (walk.end ≡ left.end)
 walk_at-image rest place walk size image after here view stands size_is image_is after_is =
-    let next : Place = if is_last rest then BehindLast else Reading in
-    let behind = drop (image_length rest) rest in
-    let rom : rom_in rest ≡ record { images = image_at rest ∷ (walk_at behind next).images; end = (walk_at behind next).end } =
-    rom_in-step rest ∙ ap (λ e. rom_from e (is_last rest) (image_at rest) (rom_in behind)) (sym stands) ∙ walk_behind (is_last rest) rest (image_at rest) behind in
+    let next : Place = if is_last rest then AfterLast else Reading in
+    let following = drop (image_length rest) rest in
+    let rom : rom_in rest ≡ record { images = image_at rest ∷ (walk_at following next).images; end = (walk_at following next).end } =
+    rom_in-step rest ∙ ap (λ e. rom_from e (is_last rest) (image_at rest) (rom_in following)) (sym stands) ∙ walk_after (is_last rest) rest (image_at rest) following in
     let before : walk_of rest ≡ walk = ap (walk_at rest) (sym here) ∙ view in
-    let left : take (length rest - size) (drop size rest) ≡ behind = take_rest rest size ∙ ap (λ (n : ℕ). drop n rest) size_is in
+    let left : take (length rest - size) (drop size rest) ≡ following = take_rest rest size ∙ ap (λ (n : ℕ). drop n rest) size_is in
     rw (left, image_is, after_is) (
       ap (λ w. w.images) (sym before) ∙ ap (λ r. r.images) rom,
       ap (λ w. w.end) (sym before) ∙ ap (λ r. r.end) rom,

@@ -1,34 +1,29 @@
--- The grammar of option ROMs: bytes are images, one behind the other, and an end (PCI Firmware 3.2: PCI
+-- The grammar of option ROMs: bytes are images, one after the other, and an end (PCI Firmware 3.2: PCI
 -- Expansion ROM Header Format, PCI Data Structure Format; UEFI 2.8: PCI Option ROMs). The words on an image
 -- speak of `rest`, the bytes of the ROM from the image's first byte on.
 use Rattle.std.specs.Prelude.{ℕ, zero, suc, ◌+◌, ◌*◌, ◌/◌, ◌%◌, ◌^◌, List, [], ◌∷◌, length, take, drop, slice_index, Bool, true, false, not, ◌&&◌, ◌||◌, nat_eq, nat_lt, codes, Option, Some, None, option_map, if◌then◌else◌}
 use Rattle.std.specs.List.{find, starts_with}
 use Rattle.byteorder.specs.Endian.{little_number}
+use Rattle.fw_types.specs.Layout.{uint16_at, uint32_at}
+use Rattle.fw_types.specs.declared.image.TheConstants.{EFI_CODE}
 use Rattle.fw_types.specs.declared.image.RomEnd.{RomEnd}
 use Rattle.fw_types.specs.declared.image.RomEnd.TheVariants.{Done, BadSignature, BadPcir, LengthZero, PastEnd}
 
 -- ---- fields
 
--- the numbers in two and in four bytes at a place, the lowest byte first
-abbrev pub word_at : ℕ → List ℕ → ℕ
-word_at at bytes = little_number 2 (drop at bytes)
-
-abbrev pub long_at : ℕ → List ℕ → ℕ
-long_at at bytes = little_number 4 (drop at bytes)
-
 -- where the PCI data structure begins, from the image's first byte
 abbrev pub pcir_place : List ℕ → ℕ
-pcir_place rest = word_at 24 rest
+pcir_place rest = uint16_at 24 rest
 
--- the PCI data structure, and what is behind it
+-- the bytes from the PCI data structure on
 abbrev pub pcir : List ℕ → List ℕ
 pcir rest = drop (pcir_place rest) rest
 
 -- how many bytes the image has: its length counts units of 512
 abbrev pub image_length : List ℕ → ℕ
-image_length rest = 512 * word_at 16 (pcir rest)
+image_length rest = 512 * uint16_at 16 (pcir rest)
 
--- bit 7 of the indicator: no image is behind this one
+-- bit 7 of the indicator: no image follows this one
 abbrev pub is_last : List ℕ → Bool
 is_last rest = nat_eq (slice_index (pcir rest) 21 / 2 ^ 7 % 2) 1
 
@@ -49,7 +44,7 @@ has_no_length rest = nat_eq (image_length rest) 0
 abbrev pub is_cut_off : List ℕ → Bool
 is_cut_off rest = nat_lt (length rest) (image_length rest)
 
--- a test, and how a ROM ends where it holds
+-- a test, and how a ROM ends if it holds
 pub record Condition : Type 0 where
   pub holds : List ℕ → Bool
   pub end : RomEnd
@@ -63,7 +58,7 @@ conditions =
     ∷ record { holds = is_cut_off; end = PastEnd }
     ∷ []
 
--- why no image stands here: the first condition that holds. Where none does, one stands here
+-- why there is no image here: the first condition that holds. If none does, there is one
 abbrev pub end_at : List ℕ → Option RomEnd
 end_at rest = option_map (λ condition. condition.end) (find (λ condition. condition.holds rest) conditions)
 
@@ -78,25 +73,29 @@ pub record Image : Type 0 where
   pub compression : ℕ
   pub body : List ℕ
 
--- code type 3 and the EFI signature: the header is that of an EFI image
+-- the signature of the header of an EFI image
+abbrev pub efi_signature : ℕ
+efi_signature = 0x0EF1
+
+-- the code type and the signature are those of EFI: the header is that of an EFI image
 abbrev pub is_efi : List ℕ → Bool
-is_efi rest = nat_eq (slice_index (pcir rest) 20) 3 && nat_eq (long_at 4 rest) 0x0EF1
+is_efi rest = nat_eq (slice_index (pcir rest) 20) EFI_CODE && nat_eq (uint32_at 4 rest) efi_signature
 
 -- the bytes of the image
 abbrev pub image_bytes : List ℕ → List ℕ
 image_bytes rest = take (image_length rest) rest
 
--- vendor, device, class and code type stand in the PCI data structure. The header of an EFI image has its
--- machine, its compression, and where its body begins; of another image the body is the whole
+-- vendor, device, class and code type are in the PCI data structure. The header of an EFI image has its
+-- machine, its compression, and where its body begins; the body of another image is the whole image
 abbrev pub image_at : List ℕ → Image
 image_at rest = record {
-  vendor = word_at 4 (pcir rest);
-  device = word_at 6 (pcir rest);
+  vendor = uint16_at 4 (pcir rest);
+  device = uint16_at 6 (pcir rest);
   class = little_number 3 (drop 13 (pcir rest));
   code_type = slice_index (pcir rest) 20;
-  machine = if is_efi rest then word_at 10 rest else 0;
-  compression = if is_efi rest then word_at 12 rest else 0;
-  body = if is_efi rest then drop (word_at 22 rest) (image_bytes rest) else image_bytes rest;
+  machine = if is_efi rest then uint16_at 10 rest else 0;
+  compression = if is_efi rest then uint16_at 12 rest else 0;
+  body = if is_efi rest then drop (uint16_at 22 rest) (image_bytes rest) else image_bytes rest;
 }
 
 -- ---- the ROM
@@ -106,8 +105,8 @@ pub record Rom : Type 0 where
   pub images : List Image
   pub end : RomEnd
 
--- what stands here, where `more` is the ROM behind the image: nothing but the end, the last image, or an
--- image and more
+-- what is here, if `more` is the ROM after the image: nothing but the end, the last image, or an image and
+-- more
 abbrev pub rom_from : Option RomEnd → Bool → Image → Rom → Rom
 rom_from (Some end) last image more = record { images = []; end = end }
 rom_from None true image more = record { images = image ∷ []; end = Done }

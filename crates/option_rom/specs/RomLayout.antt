@@ -1,99 +1,81 @@
 -- The option ROMs that the writer makes (PCI Firmware 3.2: PCI Expansion ROM Header Format, PCI Data
 -- Structure Format; UEFI 2.8: PCI Option ROMs).
 use Rattle.std.specs.Prelude.{◌≡◌, ℕ, ◌+◌, ◌-◌, ◌*◌, ◌/◌, ◌^◌, List, [], ◌∷◌, ◌++◌, length, map, replicate, Bool, true, false, ◌||◌, ◌&&◌, nat_lt, codes, Option, Some, None, Result, Ok, Err, if◌then◌else◌}
-use Rattle.std.specs.List.{list_any, replace_range}
+use Rattle.std.specs.List.{list_any}
 use Rattle.std.specs.declared.vec.Vec.{Vec}
 use Rattle.std.specs.declared.alloc.Global.{Global}
 use Rattle.byteorder.specs.Endian.{little_bytes}
+use Rattle.fw_types.specs.Layout.{Field, plain_bytes, put_all, uint8, uint16, uint32}
+use Rattle.fw_types.specs.declared.image.TheConstants.{BOOT_SERVICE_DRIVER, EFI_CODE, MACHINE_EBC}
 use Rattle.fw_types.specs.declared.image.RomEnd.TheVariants.{Done}
-use Rattle.option_rom.specs.RomGrammar.{Image, Rom}
+use Rattle.option_rom.specs.RomGrammar.{Image, Rom, efi_signature}
 use Rattle.option_rom.specs.declared.part.RomPart.{RomPart}
 use Rattle.option_rom.specs.declared.part.RomWriteFault.{RomWriteFault}
 use Rattle.option_rom.specs.declared.part.RomWriteFault.TheVariants.{Empty, TooLong, OutOfMemory}
 
 -- ---- the layout
 
--- numbers of two and of four bytes, the lowest byte first
-abbrev pub word : ℕ → List ℕ
-word number = little_bytes 2 number
-
-abbrev pub long : ℕ → List ℕ
-long number = little_bytes 4 number
-
--- a field: where it stands, and its bytes
-abbrev pub Field : Type 0
-Field = ℕ × List ℕ
-
--- the header of an EFI image: signature, length in units of 512, EFI signature, subsystem (an EFI boot
--- service driver), machine (EBC), compression (none), and where the body and the PCI data structure begin
+-- the header of an EFI image, whose length counts units of 512 bytes; the body begins at 64, and the PCI
+-- data structure at 28
 abbrev pub header_fields : ℕ → List Field
 header_fields units =
-    (0, 0x55 ∷ 0xAA ∷ [])
-    ∷ (2, word units)
-    ∷ (4, long 0x0EF1)
-    ∷ (8, word 11)
-    ∷ (10, word 0x0EBC)
-    ∷ (12, word 0)
-    ∷ (22, word 64)
-    ∷ (24, word 28)
+    plain_bytes 0 (codes "ROM Signature") (0x55 ∷ 0xAA ∷ [])
+    ∷ uint16 2 (codes "Initialization Size") units
+    ∷ uint32 4 (codes "EFI Signature") efi_signature
+    ∷ uint16 8 (codes "Subsystem") BOOT_SERVICE_DRIVER
+    ∷ uint16 10 (codes "Machine Type") MACHINE_EBC
+    ∷ uint16 12 (codes "Compression Type") 0
+    ∷ uint16 22 (codes "Offset to EFI Image") 64
+    ∷ uint16 24 (codes "Offset to PCIR Data Structure") 28
     ∷ []
 
 -- bit 7 of the indicator alone, in the last image
 abbrev pub indicator : Bool → ℕ
 indicator last = if last then 0x80 else 0
 
--- the PCI data structure at 28: signature, vendor, device, its own length, revision, class, length in units
--- of 512, code type (EFI), indicator
+-- the PCI data structure at 28
 abbrev pub pcir_fields : ℕ → Bool → RomPart → List Field
 pcir_fields units last part =
-    (28, codes "PCIR")
-    ∷ (32, word part.vendor)
-    ∷ (34, word part.device)
-    ∷ (38, word 24)
-    ∷ (40, 0 ∷ [])
-    ∷ (41, little_bytes 3 part.class)
-    ∷ (44, word units)
-    ∷ (48, 3 ∷ [])
-    ∷ (49, indicator last ∷ [])
+    plain_bytes 28 (codes "Signature") (codes "PCIR")
+    ∷ uint16 32 (codes "Vendor Identification") part.vendor
+    ∷ uint16 34 (codes "Device Identification") part.device
+    ∷ uint16 38 (codes "PCI Data Structure Length") 24
+    ∷ uint8 40 (codes "PCI Data Structure Revision") 0
+    ∷ plain_bytes 41 (codes "Class Code") (little_bytes 3 part.class)
+    ∷ uint16 44 (codes "Image Length") units
+    ∷ uint8 48 (codes "Code Type") EFI_CODE
+    ∷ uint8 49 (codes "Last Image Indicator") (indicator last)
     ∷ []
-
--- bytes with a field put in its place
-unfoldable pub put : Field → List ℕ → List ℕ
-put field bytes = replace_range bytes field.0 (field.0 + length field.1) field.1
-
-abbrev pub put_all : List Field → List ℕ → List ℕ
-put_all [] bytes = bytes
-put_all (field ∷ fields) bytes = put_all fields (put field bytes)
 
 -- how many units of 512 bytes hold the header of 64 bytes and a body
 abbrev pub units_of : List ℕ → ℕ
 units_of body = (64 + length body + 511) / 512
 
--- what is in front of the body: zeros but for the fields
+-- what comes before the body: zeros except for the fields
 unfoldable pub front_of : ℕ → Bool → RomPart → List ℕ
 front_of units last part = put_all (pcir_fields units last part) (put_all (header_fields units) (replicate 64 0))
 
--- a body, and zeros behind it up to the end of the last unit
-abbrev pub padded : List ℕ → List ℕ
-padded body = body ++ replicate (512 * units_of body - 64 - length body) 0
+-- a body, and zeros up to the end of its last unit
+abbrev pub padded_body : List ℕ → List ℕ
+padded_body body = body ++ replicate (512 * units_of body - 64 - length body) 0
 
 -- the image of a part
 abbrev pub laid_part : Bool → RomPart → List ℕ
-laid_part last part = front_of (units_of part.body) last part ++ padded part.body
+laid_part last part = front_of (units_of part.body) last part ++ padded_body part.body
 
 -- whether no part follows
 abbrev pub is_none_left : List RomPart → Bool
 is_none_left [] = true
 is_none_left (part ∷ parts) = false
 
--- the whole ROM: the images of the parts, one behind the other
+-- the whole ROM: the images of the parts, one after the other
 abbrev pub laid_rom : List RomPart → List ℕ
 laid_rom [] = []
 laid_rom (part ∷ parts) = laid_part (is_none_left parts) part ++ laid_rom parts
 
 -- ---- what is refused
 
--- the longest body, for which the length is 65,535 units of 512
+-- the longest body: its image has 65,535 units of 512 bytes
 abbrev pub longest_body : ℕ
 longest_body = 33553856
 
@@ -127,10 +109,10 @@ image_of part = record {
   vendor = part.vendor;
   device = part.device;
   class = part.class;
-  code_type = 3;
-  machine = 0x0EBC;
+  code_type = EFI_CODE;
+  machine = MACHINE_EBC;
   compression = 0;
-  body = padded part.body;
+  body = padded_body part.body;
 }
 
 abbrev pub rom_of_parts : List RomPart → Rom

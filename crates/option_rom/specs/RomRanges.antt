@@ -9,14 +9,14 @@ pub record Range : Type 0 where
   pub at : ℕ
   pub size : ℕ
 
-abbrev pub end_of : Range → ℕ
-end_of range = range.at + range.size
+abbrev pub range_end : Range → ℕ
+range_end range = range.at + range.size
 
 -- the range is an image: no condition holds at its place, and it is as long as it says
 pub record IsImage (rom : List ℕ) (range : Range) : Type 0 where
   pub passes : end_at (drop range.at rom) ≡ None
   pub size : range.size ≡ image_length (drop range.at rom)
-  pub inside : end_of range ≤ length rom
+  pub inside : range_end range ≤ length rom
 
 -- each range is an image
 abbrev pub AreImages : List ℕ → List Range → Type 0
@@ -26,18 +26,18 @@ AreImages rom (range ∷ ranges) = IsImage rom range × AreImages rom ranges
 -- the first range begins at a place, and each other where the one before it ends
 abbrev pub LieInARow : ℕ → List Range → Type 0
 LieInARow place [] = Unit {0}
-LieInARow place (range ∷ ranges) = (range.at ≡ place) × LieInARow (end_of range) ranges
+LieInARow place (range ∷ ranges) = (range.at ≡ place) × LieInARow (range_end range) ranges
 
--- the place behind ranges that begin at a place
-abbrev pub behind : ℕ → List Range → ℕ
-behind place [] = place
-behind place (range ∷ ranges) = behind (end_of range) ranges
+-- the place after ranges that begin at a place
+abbrev pub place_after : ℕ → List Range → ℕ
+place_after place [] = place
+place_after place (range ∷ ranges) = place_after (range_end range) ranges
 
 -- whether a range says that it is the last image
 abbrev pub says_last : List ℕ → Range → Bool
 says_last rom range = is_last (drop range.at rom)
 
--- no range but the last one says that it is the last image
+-- no range except the last one says that it is the last image
 abbrev pub OnlyLastSaysSo : List ℕ → List Range → Type 0
 OnlyLastSaysSo rom [] = Unit {0}
 OnlyLastSaysSo rom (range ∷ []) = Unit {0}
@@ -49,7 +49,7 @@ last_says_so rom [] = false
 last_says_so rom (range ∷ []) = says_last rom range
 last_says_so rom (range ∷ next ∷ ranges) = last_says_so rom (next ∷ ranges)
 
--- behind an image that says that it is the last the ROM is done; else a condition holds at the place behind
+-- after an image that says that it is the last the ROM is done; else a condition holds at the place after it
 abbrev pub EndsAs : Bool → List ℕ → ℕ → RomEnd → Type 0
 EndsAs true rom place end = end ≡ Done
 EndsAs false rom place end = end_at (drop place rom) ≡ Some end
@@ -59,7 +59,7 @@ pub record IsRomFrom (place : ℕ) (rom : List ℕ) (ranges : List Range) (end :
   pub in_a_row : LieInARow place ranges
   pub images : AreImages rom ranges
   pub only_last : OnlyLastSaysSo rom ranges
-  pub ends : EndsAs (last_says_so rom ranges) rom (behind place ranges) end
+  pub ends : EndsAs (last_says_so rom ranges) rom (place_after place ranges) end
 
 abbrev pub IsRom : List ℕ → List Range → RomEnd → Type 0
 IsRom rom ranges end = IsRomFrom 0 rom ranges end

@@ -7,8 +7,8 @@ pub record HasPcir (rest : List ℕ) : Type 0 where
   pub header : 26 ≤ length rest
   pub pcir : pcir_place rest + 24 ≤ length rest
 
--- an image is there, of one unit of 512 bytes at least
-pub record StandsHere (rest : List ℕ) : Type 0 where
+-- an image is at the front, of one unit of 512 bytes at least
+pub record HasImage (rest : List ℕ) : Type 0 where
   pub reads : HasPcir rest
   pub some : 512 ≤ image_length rest
   pub inside : image_length rest ≤ length rest

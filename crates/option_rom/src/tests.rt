@@ -3,7 +3,8 @@ use fw_types::{RomEnd, Rows};
 use std::alloc::{AllocError, Global};
 use std::test::Fail;
 
-/// The bytes of an image of 512 bytes that are not 0, each with its place: no EFI image, code type 0.
+/// The bytes of an image of 512 bytes that are not 0, each with its place: no EFI image, code type
+/// 0.
 const PLAIN: [(usize, u8); 14] = [
     (0, 0x55),
     (1, 0xAA),
@@ -21,7 +22,7 @@ const PLAIN: [(usize, u8); 14] = [
     (44, 1),
 ];
 
-/// What such an image has besides where it is compressed EBC, of class 0x030201.
+/// What such an image has besides if it is a compressed EBC image.
 const COMPRESSED: [(usize, u8); 10] = [
     (4, 0xF1),
     (5, 0x0E),
@@ -70,7 +71,7 @@ const SMALLEST: [(usize, u8); 31] = [
     (0x204, 0x04),
 ];
 
-/// The bytes that are not 0 in front of that driver in the ROM that is written of it alone.
+/// The bytes that are not 0 before that driver in the ROM that is written of it alone.
 const FRONT: [(usize, u8); 24] = [
     (0, 0x55),
     (1, 0xAA),
@@ -112,7 +113,8 @@ fn smallest(alloc: Global) -> Result<Vec<u8>, AllocError> {
     Ok(bytes)
 }
 
-/// A ROM of an image with code type 0, a compressed EBC image, and the smallest driver as it is written.
+/// A ROM of an image with code type 0, a compressed EBC image, and the smallest driver as it is
+/// written.
 fn three_images(alloc: Global) -> Result<Vec<u8>, AllocError> {
     let mut rom = vec![in alloc; 0; 2560]?;
     put(&mut rom, 0, &PLAIN);
@@ -124,7 +126,7 @@ fn three_images(alloc: Global) -> Result<Vec<u8>, AllocError> {
     Ok(rom)
 }
 
-/// How many images a walk gives, and the end that it then tells.
+/// How many images a walk gives, and the end that it then reports.
 fn walked(bytes: &[u8]) -> (usize, Option<RomEnd>) {
     let mut walk = images(bytes);
     let mut count: usize = 0;
@@ -236,7 +238,7 @@ fn other_bytes_end_the_walk_elsewhere(rt: HostRuntime) -> Result<(), Fail> {
     Ok(())
 }
 
-/// What the second image says where one of its bytes is another.
+/// What the second image says if one of its bytes is another.
 #[test]
 fn efi_images_alone_have_a_machine(rt: HostRuntime) -> Result<(), Fail> {
     let vectors = [
@@ -288,28 +290,6 @@ fn one_driver_is_written(rt: HostRuntime) -> Result<(), Fail> {
     let rom = write(rt.alloc(), &parts).ok().ok_or("refused")?;
     let whole = three_images(rt.alloc())?;
     assert_eq!(rt; Some(rom.as_slice()), whole.get(1024..));
-    Ok(())
-}
-
-#[test]
-fn two_parts_are_read_back(rt: HostRuntime) -> Result<(), Fail> {
-    // 448 bytes end with a unit, 449 pass it.
-    let parts = [
-        part(rt.alloc(), 0xFFFF, 0xFFFFFF, 449)?,
-        part(rt.alloc(), 0x0001, 0x000001, 448)?,
-    ];
-    let rom = write(rt.alloc(), &parts).ok().ok_or("refused")?;
-    assert_eq!(rt; rom.len(), 1536);
-    let mut walk = images(&rom);
-    let first = walk.next().ok_or("no first image")?;
-    assert_eq!(rt; fields(&first), (0x1AF4, 0xFFFF, 0xFFFFFF, 3, 0x0EBC, 0));
-    assert_eq!(rt; first.body.get(..449), Some([0xC3; 449].as_slice()));
-    assert_eq!(rt; first.body.get(449..), Some([0; 511].as_slice()));
-    let second = walk.next().ok_or("no second image")?;
-    assert_eq!(rt; fields(&second), (0x1AF4, 0x0001, 0x000001, 3, 0x0EBC, 0));
-    assert_eq!(rt; second.body, [0xC3; 448].as_slice());
-    assert!(rt; walk.next().is_none());
-    assert_eq!(rt; walk.end(), Some(RomEnd::Done));
     Ok(())
 }
 

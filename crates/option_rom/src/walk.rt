@@ -1,27 +1,27 @@
 ghost use Rattle.std.specs.Prelude.{◌≡◌, ◌*◌, ◌≤◌, ◌||◌, is_none, length, if◌then◌else◌};
-ghost use Rattle.option_rom.specs.RomWalk.{Takes, walk_of, end_of};
+ghost use Rattle.option_rom.specs.RomWalk.{Takes, walk_end, walk_of};
 ghost use Rattle.option_rom.specs.RomGrammar.{is_last};
 ghost use Rattle.option_rom.specs.RomRead.{HasPcir};
-ghost use Rattle.option_rom.specs.declared.walk.Place.TheVariants.{Reading, BehindLast};
+ghost use Rattle.option_rom.specs.declared.walk.Place.TheVariants.{Reading, AfterLast};
 
 use crate::header;
 use crate::image::RomImage;
 use fw_types::RomEnd;
 use std::marker::Model;
 
-/// Where a walk stands.
+/// Where a walk is.
 #[derive(Clone, Copy, Debug)]
 enum Place {
-    /// In front of an image, or of the end.
+    /// Before an image, or before the end.
     Reading,
-    /// Behind the image that says that it is the last.
-    BehindLast,
-    /// At the end, of which it has told.
+    /// After the image that says that it is the last.
+    AfterLast,
+    /// At the end, which it has reported.
     Over(RomEnd),
 }
 
-/// A walk over the images of an option ROM. Contracts see the images that it has not given yet, how the ROM
-/// ends, and whether the walk is over.
+/// A walk over the images of an option ROM. Contracts see the images that it has not given yet, how
+/// the ROM ends, and whether the walk is over.
 #[derive(Debug, Drop)]
 pub struct RomIter<'a> {
     rest: &'a [u8],
@@ -36,7 +36,8 @@ impl<'a> Model for RomIter<'a> {
     ghost view = { λ walk. walk_at walk.rest.now walk.place };
 }
 
-/// The walk over the images of an option ROM, from its first byte on. Takes no memory, nor do its steps.
+/// The walk over the images of an option ROM, from its first byte on. It takes no memory, nor do
+/// its steps (PCI Firmware 3.2: PCI Expansion ROM Header Format).
 pub fn images(bytes: &[u8]) -> RomIter<'_>
     ensures walk { result ≡ walk_of bytes.now }
     // Each image has at least 512 bytes.
@@ -49,7 +50,7 @@ pub fn images(bytes: &[u8]) -> RomIter<'_>
 }
 
 impl<'a> RomIter<'a> {
-    /// The next image; `None` where there is no further one, from then on.
+    /// The next image; `None` if there is no further one, from then on.
     pub fn next(&mut self) -> Option<RomImage<'a>>
         ensures image { Takes self.old.images result self.new.images }
         ensures end { self.new.end ≡ self.old.end }
@@ -63,10 +64,10 @@ impl<'a> RomIter<'a> {
                     return None;
                 }
                 self.rest = &rest[header::image_length(rest)..];
-                self.place = place_behind(rest);
+                self.place = place_after(rest);
                 Some(header::image_at(rest))
             }
-            Place::BehindLast => {
+            Place::AfterLast => {
                 self.place = Place::Over(RomEnd::Done);
                 None
             }
@@ -76,22 +77,22 @@ impl<'a> RomIter<'a> {
 
     /// How the ROM ended; `None` until `next` has answered `None`.
     pub fn end(&self) -> Option<RomEnd>
-        ensures { result ≡ end_of self.now }
+        ensures { result ≡ walk_end self.now }
     {
         match self.place {
-            Place::Reading | Place::BehindLast => None,
+            Place::Reading | Place::AfterLast => None,
             Place::Over(end) => Some(end),
         }
     }
 }
 
-/// Where a walk stands behind the image at the front.
-fn place_behind(rest: &[u8]) -> Place
+/// Where a walk is after the image at the front.
+fn place_after(rest: &[u8]) -> Place
     requires { HasPcir rest.now }
-    ensures { result ≡ (if is_last rest.now then BehindLast else Reading) }
+    ensures { result ≡ (if is_last rest.now then AfterLast else Reading) }
 {
     if header::is_last(rest) {
-        Place::BehindLast
+        Place::AfterLast
     } else {
         Place::Reading
     }

@@ -8,12 +8,14 @@ use crate::part::{HIGHEST_CLASS, LONGEST_BODY, RomPart, RomWriteFault};
 use fw_types::OutOfMemory;
 use std::alloc::Global;
 
-/// A ROM of EBC images, one for each part and in their order.
+/// An option ROM of EBC images, one for each part and in their order (PCI Firmware 3.2: PCI
+/// Expansion ROM Header Format).
 ///
 /// # Errors
 ///
-/// `Empty` where there is no part, `TooLong` where a body is longer than 33,553,856 bytes or a class code
-/// has more than 24 bits, `OutOfMemory` where there is no memory for the ROM.
+/// - `Empty`: there is no part.
+/// - `TooLong`: a body is longer than 33,553,856 bytes, or a class code has more than 24 bits.
+/// - `OutOfMemory`: there is no memory for the ROM.
 pub fn write(alloc: Global, parts: &[RomPart]) -> Result<Vec<u8>, RomWriteFault>
     ensures refused { RefusesFor (fault_of parts.now) result }
     ensures layout { IfOk result (λ rom. rom.items ≡ laid_rom parts.now) }
@@ -29,6 +31,7 @@ pub fn write(alloc: Global, parts: &[RomPart]) -> Result<Vec<u8>, RomWriteFault>
     Ok(laid_rom(alloc, parts)?)
 }
 
+/// Whether the fields of an image have no room for one of the parts.
 fn is_any_too_long(parts: &[RomPart]) -> bool
     ensures { result ≡ list_any is_too_long parts.now }
 {
@@ -42,6 +45,7 @@ fn is_too_long(part: &RomPart) -> bool
     part.body.as_slice().len() > LONGEST_BODY || part.class > HIGHEST_CLASS
 }
 
+/// The images of the parts, one after the other.
 fn laid_rom(alloc: Global, parts: &[RomPart]) -> Result<Vec<u8>, OutOfMemory>
     requires { list_any is_too_long parts.now ≡ false }
     ensures rom { IfOk result (λ rom. rom.items ≡ laid_rom parts.now) }
@@ -54,7 +58,7 @@ fn laid_rom(alloc: Global, parts: &[RomPart]) -> Result<Vec<u8>, OutOfMemory>
     Ok(rom)
 }
 
-/// Puts the image of a part behind the bytes of a ROM.
+/// Adds the image of a part to a ROM.
 fn put_part(rom: &mut Vec<u8>, part: &RomPart, last: bool) -> Result<(), OutOfMemory>
     requires { length part.now.body ≤ longest_body }
     ensures rom { OnOk result (rom.new.items ≡ rom.old.items ++ laid_part last part.now) }

@@ -1,4 +1,4 @@
--- A directory is its first block and the directory behind it.
+-- A directory is its first block and the directory after it.
 use Rattle.std.proofs.Common.{◌≡◌, ◌≤◌, ◌<◌, ◌++◌, ℕ, zero, suc, Bool, true, false, ◌||◌, List, [], ◌∷◌, length, drop, refl, ap, ◌∙◌, if◌then◌else◌, arith}
 use Rattle.std.specs.List.{list_any}
 use Rattle.std.proofs.lemmas.List.{length-drop}
@@ -31,7 +31,7 @@ blocks_in-enough (suc n) (suc m) (byte ∷ bytes) few fewer =
     let left = length-drop block.size (byte ∷ bytes) in
     blocks_in-enough n m behind (omega arith) (omega arith))
 
--- the blocks of a directory are its first and those of the directory behind it
+-- the blocks of a directory are its first and those of the directory after it
 pub blocks_of-cons : (byte : ℕ) (bytes : List ℕ) → blocks_of (byte ∷ bytes) ≡ block_of (byte ∷ bytes) ∷ (if is_malformed (block_of (byte ∷ bytes)) then [] else blocks_of (drop (block_of (byte ∷ bytes)).size (byte ∷ bytes)))
 unfolding blocks_in
 blocks_of-cons byte bytes =

@@ -1,6 +1,7 @@
 pub mod NumberLemmas
 pub mod BlockLemmas
 pub mod SectionLemmas
-pub mod AcceptedLemmas
-pub mod PlacedLemmas
-pub mod LaidLemmas
+pub mod RuleLemmas
+pub mod SectionPlaceLemmas
+pub mod ImageByteLemmas
+pub mod LaidSizeLemmas

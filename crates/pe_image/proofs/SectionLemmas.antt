@@ -16,25 +16,25 @@ unfolding sections_of
 get_or-sections_of bytes i d inside =
     get_or-map-range_with_len (λ i. section_at (section_table bytes + 40 * i) bytes) 0 (headers_of bytes).section_count i i d inside (omega arith)
 
--- the sections from one on are it and those behind it
+-- the sections from one on are it and those after it
 pub drop-sections_of : (bytes : List ℕ) (i : ℕ) → i < (headers_of bytes).section_count → drop i (sections_of bytes) ≡ section_at (section_table bytes + 40 * i) bytes ∷ drop (i + 1) (sections_of bytes)
 drop-sections_of bytes i inside =
     let section = section_at (section_table bytes + 40 * i) bytes in
     drop_more (sections_of bytes) i section (omega (arith, length-sections_of bytes))
     ∙ ap (λ (s : SectionHeader). s ∷ drop (i + 1) (sections_of bytes)) (get_or-sections_of bytes i section inside)
 
--- there is none behind the last
+-- there is none after the last
 pub drop-sections_of-all : (bytes : List ℕ) → drop (headers_of bytes).section_count (sections_of bytes) ≡ []
 drop-sections_of-all bytes = drop_all (headers_of bytes).section_count (sections_of bytes) (omega (arith, length-sections_of bytes))
 
--- ---- a section behind what stands in front of it
+-- ---- a section after what stands before it
 
 -- the first of the sections from one on is misplaced
 pub any_placed-first : (misplaced : ℕ × SectionHeader → Bool) (bytes : List ℕ) (front i : ℕ) → i < (headers_of bytes).section_count
     → misplaced (front, section_at (section_table bytes + 40 * i) bytes) ≡ true → list_any misplaced (placed_from front (drop i (sections_of bytes))) ≡ true
 any_placed-first misplaced bytes front i inside bad = rw (drop-sections_of bytes i inside, bad) refl
 
--- it is not, and the others stand behind it
+-- it is not, and the others come after it
 pub any_placed-behind : (misplaced : ℕ × SectionHeader → Bool) (bytes : List ℕ) (front i : ℕ) → i < (headers_of bytes).section_count
     → misplaced (front, section_at (section_table bytes + 40 * i) bytes) ≡ false
     → list_any misplaced (placed_from (end_of (section_at (section_table bytes + 40 * i) bytes)) (drop (i + 1) (sections_of bytes))) ≡ list_any misplaced (placed_from front (drop i (sections_of bytes)))

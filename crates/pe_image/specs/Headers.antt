@@ -1,24 +1,14 @@
 -- What the headers of a PE32+ file say (PE/COFF: Signature, COFF File Header, Optional Header, Optional
--- Header Data Directories, Section Table). Each field is read where it stands, whatever the file is; a
+-- Header Data Directories, Section Table). Each field is read at its place, whatever the file is; a
 -- byte past the file's end counts as 0.
-use Rattle.std.specs.Prelude.{ℕ, ◌+◌, ◌-◌, ◌*◌, min, Bool, ◌&&◌, nat_eq, nat_lt, nat_le, List, map, drop, if◌then◌else◌}
+use Rattle.std.specs.Prelude.{ℕ, ◌+◌, ◌-◌, ◌*◌, min, Bool, ◌&&◌, nat_eq, nat_lt, nat_le, List, map, if◌then◌else◌}
 use Rattle.std.specs.List.{range_with_len}
-use Rattle.byteorder.specs.Endian.{little_number}
+use Rattle.fw_types.specs.Layout.{uint16_at, uint32_at, uint64_at}
 use Rattle.pe_image.specs.declared.sections.SectionHeader.{SectionHeader}
-
--- the numbers of 2, 4 and 8 bytes at a place, the lowest byte first
-unfoldable pub word_at : ℕ → List ℕ → ℕ
-word_at place bytes = little_number 2 (drop place bytes)
-
-unfoldable pub long_at : ℕ → List ℕ → ℕ
-long_at place bytes = little_number 4 (drop place bytes)
-
-unfoldable pub quad_at : ℕ → List ℕ → ℕ
-quad_at place bytes = little_number 8 (drop place bytes)
 
 -- the fields of the headers that count here
 pub record Headers : Type 0 where
-  -- the places of the PE signature and of the optional header behind the COFF file header
+  -- the places of the PE signature and of the optional header, which follows the COFF file header
   pub signature : ℕ
   pub optional : ℕ
   -- COFF File Header
@@ -28,7 +18,7 @@ pub record Headers : Type 0 where
   pub characteristics : ℕ
   -- Optional Header Standard Fields
   pub magic : ℕ
-  pub entry : ℕ
+  pub entry_point : ℕ
   -- Optional Header Windows-Specific Fields
   pub image_base : ℕ
   pub size_of_image : ℕ
@@ -42,24 +32,24 @@ pub record Headers : Type 0 where
 -- the headers of a file; the DOS header has the place of the PE signature at 0x3C
 abbrev pub headers_of : List ℕ → Headers
 headers_of bytes =
-    let signature = long_at 0x3C bytes in
+    let signature = uint32_at 0x3C bytes in
     let optional = signature + 24 in
     record {
       signature = signature;
       optional = optional;
-      machine = word_at (signature + 4) bytes;
-      section_count = word_at (signature + 6) bytes;
-      optional_size = word_at (signature + 20) bytes;
-      characteristics = word_at (signature + 22) bytes;
-      magic = word_at optional bytes;
-      entry = long_at (optional + 16) bytes;
-      image_base = quad_at (optional + 24) bytes;
-      size_of_image = long_at (optional + 56) bytes;
-      size_of_headers = long_at (optional + 60) bytes;
-      subsystem = word_at (optional + 68) bytes;
-      directory_count = long_at (optional + 108) bytes;
-      relocations = long_at (optional + 152) bytes;
-      size_of_relocations = long_at (optional + 156) bytes;
+      machine = uint16_at (signature + 4) bytes;
+      section_count = uint16_at (signature + 6) bytes;
+      optional_size = uint16_at (signature + 20) bytes;
+      characteristics = uint16_at (signature + 22) bytes;
+      magic = uint16_at optional bytes;
+      entry_point = uint32_at (optional + 16) bytes;
+      image_base = uint64_at (optional + 24) bytes;
+      size_of_image = uint32_at (optional + 56) bytes;
+      size_of_headers = uint32_at (optional + 60) bytes;
+      subsystem = uint16_at (optional + 68) bytes;
+      directory_count = uint32_at (optional + 108) bytes;
+      relocations = uint32_at (optional + 152) bytes;
+      size_of_relocations = uint32_at (optional + 156) bytes;
     }
 
 -- ---- sections (PE/COFF: Section Table)
@@ -67,13 +57,13 @@ headers_of bytes =
 -- the section header at a place
 abbrev pub section_at : ℕ → List ℕ → SectionHeader
 section_at place bytes = record {
-  virtual_size = long_at (place + 8) bytes;
-  address = long_at (place + 12) bytes;
-  raw_size = long_at (place + 16) bytes;
-  file_offset = long_at (place + 20) bytes;
+  virtual_size = uint32_at (place + 8) bytes;
+  address = uint32_at (place + 12) bytes;
+  raw_size = uint32_at (place + 16) bytes;
+  file_offset = uint32_at (place + 20) bytes;
 }
 
--- the section table stands behind the optional header, with 40 bytes for each section
+-- the section table follows the optional header, with 40 bytes for each section
 abbrev pub section_table : List ℕ → ℕ
 section_table bytes = (headers_of bytes).optional + (headers_of bytes).optional_size
 
@@ -81,15 +71,15 @@ unfoldable pub sections_of : List ℕ → List SectionHeader
 sections_of bytes =
     map (λ i. section_at (section_table bytes + 40 * i) bytes) (range_with_len 0 (headers_of bytes).section_count)
 
--- how many bytes a section has in the image: its virtual size, or its raw size where that is 0
+-- how many bytes a section has in the image: its virtual size, or its raw size if that is 0
 abbrev pub extent_of : SectionHeader → ℕ
 extent_of section = if nat_eq section.virtual_size 0 then section.raw_size else section.virtual_size
 
--- how many of them are copied from the file; the others are 0
-abbrev pub copied_of : SectionHeader → ℕ
-copied_of section = min (extent_of section) section.raw_size
+-- how many of its bytes are copied from the file; the others are 0
+abbrev pub copied_size : SectionHeader → ℕ
+copied_size section = min (extent_of section) section.raw_size
 
--- the address behind a section
+-- the address at which a section ends
 abbrev pub end_of : SectionHeader → ℕ
 end_of section = section.address + extent_of section
 
@@ -100,7 +90,7 @@ has_address place section = nat_le section.address place && nat_lt place (end_of
 -- whether so many bytes at an address are all copied from the file
 abbrev pub has_copied : ℕ → ℕ → SectionHeader → Bool
 has_copied place count section =
-    nat_le section.address place && nat_le (place + count) (section.address + copied_of section)
+    nat_le section.address place && nat_le (place + count) (section.address + copied_size section)
 
 -- where the file has the byte of an address that is copied
 abbrev pub file_place : ℕ → SectionHeader → ℕ

@@ -1,21 +1,22 @@
 -- What an image holds once it is laid at an address (PE/COFF: Section Table, The .reloc Section, Base
 -- Relocation Types).
-use Rattle.std.specs.Prelude.{ℕ, ◌+◌, ◌-◌, ◌%◌, ◌^◌, nat_eq, List, ◌++◌, length, map, fold, take, drop, replicate, find, slice_index, if◌then◌else◌}
+use Rattle.std.specs.Prelude.{ℕ, ◌+◌, ◌-◌, ◌%◌, ◌^◌, nat_eq, List, ◌++◌, map, fold, take, replicate, find, slice_index, if◌then◌else◌}
 use Rattle.std.specs.List.{range_with_len}
 use Rattle.std.specs.Option.{option_map_or}
 use Rattle.byteorder.specs.Endian.{little_bytes}
-use Rattle.pe_image.specs.Headers.{headers_of, sections_of, has_copied, file_place, long_at, quad_at}
+use Rattle.fw_types.specs.Layout.{put, uint32_at, uint64_at}
+use Rattle.pe_image.specs.Headers.{headers_of, sections_of, has_copied, file_place}
 use Rattle.pe_image.specs.Relocations.{high_low, dir_64, entries_of}
 use Rattle.pe_image.specs.declared.relocations.Entry.{Entry}
 
--- the headers, and zeros behind them up to the size of the image
+-- the headers, followed by zeros up to the size of the image
 unfoldable pub headers_alone : List ℕ → List ℕ
 headers_alone bytes =
     let headers = headers_of bytes in
     take headers.size_of_headers bytes ++ replicate (headers.size_of_image - headers.size_of_headers) 0
 
--- the byte at a place before relocation: the file's, where the copied part of a section has the place;
--- else the headers' or 0
+-- the byte at a place before relocation: the file's, if the copied part of a section has the place; else
+-- the headers' or 0
 abbrev pub byte_at : List ℕ → ℕ → ℕ
 byte_at bytes place =
     option_map_or (λ section. slice_index bytes (file_place place section))
@@ -29,18 +30,14 @@ plain_image bytes = map (byte_at bytes) (range_with_len 0 (headers_of bytes).siz
 abbrev pub delta_of : List ℕ → ℕ → ℕ
 delta_of bytes base = (base + (2 ^ 64 - (headers_of bytes).image_base)) % 2 ^ 64
 
--- bytes with others in their place
-abbrev pub put : ℕ → List ℕ → List ℕ → List ℕ
-put place others bytes = take place bytes ++ others ++ drop (place + length others) bytes
-
 -- an image with one relocation applied: type 3 adds the low half of delta to 4 bytes, type 10 adds delta
 -- to 8 bytes, both wrapping
 unfoldable pub relocated : ℕ → List ℕ → Entry → List ℕ
 relocated delta image entry =
     if nat_eq entry.kind high_low
-    then put entry.place (little_bytes 4 ((long_at entry.place image + delta % 2 ^ 32) % 2 ^ 32)) image
+    then put entry.place (little_bytes 4 ((uint32_at entry.place image + delta % 2 ^ 32) % 2 ^ 32)) image
     else if nat_eq entry.kind dir_64
-    then put entry.place (little_bytes 8 ((quad_at entry.place image + delta) % 2 ^ 64)) image
+    then put entry.place (little_bytes 8 ((uint64_at entry.place image + delta) % 2 ^ 64)) image
     else image
 
 -- the image of an accepted file at a base address: the relocations of the file applied in its order

@@ -3,7 +3,8 @@
 use Rattle.std.specs.Prelude.{ℕ, zero, suc, ◌+◌, ◌-◌, ◌*◌, ◌/◌, ◌%◌, Bool, ◌&&◌, ◌||◌, true, false, not, nat_eq, nat_lt, nat_le, List, [], ◌∷◌, length, map, take, drop, find, Option, if◌then◌else◌}
 use Rattle.std.specs.List.{list_any, flat_map}
 use Rattle.std.specs.Option.{option_map, option_map_or}
-use Rattle.pe_image.specs.Headers.{headers_of, sections_of, has_copied, file_place, long_at}
+use Rattle.fw_types.specs.Layout.{uint32_at}
+use Rattle.pe_image.specs.Headers.{headers_of, sections_of, has_copied, file_place}
 use Rattle.pe_image.specs.declared.relocations.Entry.{Entry}
 
 -- the types of entries that images have: padding, 4 bytes and 8 bytes that hold an address
@@ -22,28 +23,28 @@ has_directory bytes =
     let headers = headers_of bytes in
     nat_le 6 headers.directory_count && nat_le 160 headers.optional_size && not (nat_eq headers.size_of_relocations 0)
 
--- where the file has the directory: in the section of which all its bytes are copied
+-- where the file has the directory: in the section from which all its bytes are copied
 unfoldable pub directory_place : List ℕ → Option ℕ
 directory_place bytes =
     let headers = headers_of bytes in
     option_map (file_place headers.relocations)
     (find (has_copied headers.relocations headers.size_of_relocations) (sections_of bytes))
 
--- the bytes of the directory that stands at a place of the file
+-- the bytes of the directory at a place of the file
 abbrev pub directory_at : List ℕ → ℕ → List ℕ
 directory_at bytes place = take (headers_of bytes).size_of_relocations (drop place bytes)
 
 -- ---- blocks and entries
 
 -- a block of the directory: the address of its page, its size, how many bytes the directory has from
--- the block on, and the words behind the block's header
+-- the block on, and the words after the block's header
 pub record Block : Type 0 where
   pub page : ℕ
   pub size : ℕ
   pub left : ℕ
   pub words : List ℕ
 
--- the numbers of 2 bytes each that stand one behind the other
+-- the numbers of 2 bytes each, one after the other
 abbrev pub words_in : List ℕ → List ℕ
 words_in [] = []
 words_in (low ∷ []) = []
@@ -52,9 +53,9 @@ words_in (low ∷ high ∷ rest) = (low + 256 * high) ∷ words_in rest
 -- the block at the front of bytes
 unfoldable pub block_of : List ℕ → Block
 block_of bytes =
-    let size = long_at 4 bytes in
+    let size = uint32_at 4 bytes in
     record {
-      page = long_at 0 bytes;
+      page = uint32_at 0 bytes;
       size = size;
       left = length bytes;
       words = words_in (take (size - 8) (drop 8 bytes));
@@ -65,7 +66,7 @@ abbrev pub is_malformed : Block → Bool
 is_malformed block =
     nat_lt block.left 8 || nat_lt block.size 8 || nat_eq (block.size % 2) 1 || nat_lt block.left block.size
 
--- the blocks that stand one behind the other, at most so many, and up to the first that is malformed
+-- the blocks one after the other, at most so many, and up to the first that is malformed
 unfoldable pub blocks_in : ℕ → List ℕ → List Block
 blocks_in zero bytes = []
 blocks_in (suc most) [] = []
@@ -78,11 +79,11 @@ abbrev pub blocks_of : List ℕ → List Block
 blocks_of directory = blocks_in (length directory) directory
 
 -- an entry has its type in bits 15 to 12 and the offset in its page in bits 11 to 0
-abbrev pub entry_of : ℕ → ℕ → Entry
-entry_of page word = record { kind = word / 4096; place = page + word % 4096 }
+abbrev pub block_entry : ℕ → ℕ → Entry
+block_entry page word = record { kind = word / 4096; place = page + word % 4096 }
 
 abbrev pub entries_in : Block → List Entry
-entries_in block = map (entry_of block.page) block.words
+entries_in block = map (block_entry block.page) block.words
 
 -- ---- the whole file
 

@@ -1,7 +1,7 @@
 //! Which files are EBC driver images, and what they are in memory (PE/COFF, PE32+).
 //!
 //! `check` accepts a file or says why not, and takes no memory. The view that it gives answers what
-//! the headers say, and `lay` makes the bytes that stand in memory at a base address.
+//! the headers say, and `lay` makes the bytes that the image has in memory at a base address.
 //!
 //! - `numbers`: numbers at places of a file.
 //! - `fields`: the fields of the headers.
@@ -10,7 +10,7 @@
 //! - `rules`: the twelve rules of an accepted file.
 //! - `laying`: the image in memory.
 //! - `image`: what the crate exports.
-//! - `laws`: what holds of blocks and of sections.
+//! - `laws`: what holds of blocks, of sections and of laid images.
 #![tactic(auto)]
 
 mod fields;

@@ -1,12 +1,12 @@
-//! Numbers at places of a file. Each read is total: a byte past the file's end counts as 0, so that a
-//! field may be read before the rule that says that it is there.
+//! Numbers at places of a file. Each read is total: a byte past the file's end counts as 0, so that
+//! a field may be read before the rule that says that it is there.
 ghost use Rattle.std.specs.Prelude.{◌≡◌, ◌≤◌, ◌<◌, ◌+◌, ◌^◌, drop};
 ghost use Rattle.byteorder.specs.Endian.{little_number};
-ghost use Rattle.pe_image.specs.Headers.{word_at, long_at, quad_at};
+ghost use Rattle.fw_types.specs.Layout.{uint16_at, uint32_at, uint64_at};
 
 use byteorder::{ByteOrder, LittleEndian};
 
-/// The bytes from a place on; none where the place is past the end.
+/// The bytes from a place on; none if the place is past the end.
 pub fn bytes_from(bytes: &[u8], place: usize) -> &[u8]
     ensures { result.now ≡ drop place bytes.now }
 {
@@ -23,33 +23,33 @@ fn number(bytes: &[u8], size: usize) -> u64
     ensures value { result ≡ little_number size bytes.now }
     ensures fits { result < 256 ^ size }
 {
-    let held = size.min(bytes.len());
-    if held == 0 {
+    let present = size.min(bytes.len());
+    if present == 0 {
         return 0;
     }
-    LittleEndian::read_uint(bytes, held)
+    LittleEndian::read_uint(bytes, present)
 }
 
 /// The number in the 2 bytes at a place.
-#[tactic(auto, unfolding(crate::specs::Headers::word_at))]
-pub fn word_at(bytes: &[u8], place: usize) -> u16
-    ensures { result ≡ word_at place bytes.now }
+#[tactic(auto, unfolding(fw_types::specs::Layout::uint16_at))]
+pub fn u16_at(bytes: &[u8], place: usize) -> u16
+    ensures { result ≡ uint16_at place bytes.now }
 {
     number(bytes_from(bytes, place), 2) as u16
 }
 
 /// The number in the 4 bytes at a place.
-#[tactic(auto, unfolding(crate::specs::Headers::long_at))]
-pub fn long_at(bytes: &[u8], place: usize) -> u32
-    ensures { result ≡ long_at place bytes.now }
+#[tactic(auto, unfolding(fw_types::specs::Layout::uint32_at))]
+pub fn u32_at(bytes: &[u8], place: usize) -> u32
+    ensures { result ≡ uint32_at place bytes.now }
 {
     number(bytes_from(bytes, place), 4) as u32
 }
 
 /// The number in the 8 bytes at a place.
-#[tactic(auto, unfolding(crate::specs::Headers::quad_at))]
-pub fn quad_at(bytes: &[u8], place: usize) -> u64
-    ensures { result ≡ quad_at place bytes.now }
+#[tactic(auto, unfolding(fw_types::specs::Layout::uint64_at))]
+pub fn u64_at(bytes: &[u8], place: usize) -> u64
+    ensures { result ≡ uint64_at place bytes.now }
 {
     number(bytes_from(bytes, place), 8)
 }

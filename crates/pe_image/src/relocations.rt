@@ -2,10 +2,10 @@
 ghost use Rattle.std.specs.Prelude.{◌≡◌, ◌≤◌, ◌<◌, ◌+◌, ◌-◌, ◌%◌, ◌^◌, map, take, drop, length};
 ghost use Rattle.std.specs.List.{list_any};
 ghost use Rattle.pe_image.specs.Headers.{headers_of};
-ghost use Rattle.pe_image.specs.Relocations.{has_directory, directory_place, directory_at, block_of, is_malformed, words_in, entry_of, entries_in, is_bad_entry, is_bad_block, is_bad_directory};
+ghost use Rattle.pe_image.specs.Relocations.{has_directory, directory_place, directory_at, block_of, is_malformed, words_in, block_entry, entries_in, is_bad_entry, is_bad_block, is_bad_directory};
 
 use crate::fields::{directory_count, optional_size, relocations, size_of_relocations};
-use crate::numbers::{bytes_from, long_at};
+use crate::numbers::{bytes_from, u32_at};
 use crate::sections::section_with_copied;
 
 /// The type of an entry that pads a block (PE/COFF: Base Relocation Types).
@@ -37,7 +37,7 @@ pub fn has_directory(bytes: &[u8]) -> bool
     directory_count(bytes) >= 6 && optional_size(bytes) >= 160 && size_of_relocations(bytes) != 0
 }
 
-/// Where the file has the relocation directory; `None` where no section has all its bytes.
+/// Where the file has the relocation directory; `None` if no section has all its bytes.
 #[tactic(auto, unfolding(crate::specs::Relocations::directory_place))]
 pub fn directory_place(bytes: &[u8]) -> Option<usize>
     ensures { result ≡ directory_place bytes.now }
@@ -48,7 +48,7 @@ pub fn directory_place(bytes: &[u8]) -> Option<usize>
     ))
 }
 
-/// The bytes of the relocation directory that stands at a place of the file.
+/// The bytes of the relocation directory at a place of the file.
 pub fn directory_at(bytes: &[u8], place: usize) -> &[u8]
     ensures { result.now ≡ directory_at bytes.now place }
 {
@@ -74,7 +74,7 @@ fn front(bytes: &[u8], count: usize) -> &[u8]
 pub fn block_page(rest: &[u8]) -> u32
     ensures { result ≡ (block_of rest.now).page }
 {
-    long_at(rest, 0)
+    u32_at(rest, 0)
 }
 
 /// The size of the block at the front, with its header.
@@ -82,7 +82,7 @@ pub fn block_page(rest: &[u8]) -> u32
 pub fn block_size(rest: &[u8]) -> usize
     ensures { result ≡ (block_of rest.now).size }
 {
-    long_at(rest, 4) as usize
+    u32_at(rest, 4) as usize
 }
 
 /// The bytes of the entries of the block at the front.
@@ -106,8 +106,8 @@ fn is_malformed(rest: &[u8]) -> bool
 }
 
 /// The entry that a word of a block is.
-pub fn entry_of(page: u32, word: u16) -> Entry
-    ensures { result ≡ entry_of page word }
+pub fn block_entry(page: u32, word: u16) -> Entry
+    ensures { result ≡ block_entry page word }
 {
     Entry {
         kind: word / 0x1000,
@@ -129,15 +129,15 @@ fn is_bad_entry(size: u32, entry: Entry) -> bool
 
 /// Whether one of the entries of a page is none that an image of a size may have.
 fn has_bad_entry(size: u32, page: u32, words: &[u8]) -> bool
-    ensures { result ≡ list_any (is_bad_entry size) (map (entry_of page) (words_in words.now)) }
+    ensures { result ≡ list_any (is_bad_entry size) (map (block_entry page) (words_in words.now)) }
 {
     let mut rest = words;
-    while let [low, high, behind @ ..] = rest {
+    while let [low, high, others @ ..] = rest {
         let word = u16::from_le_bytes([*low, *high]);
-        if is_bad_entry(size, entry_of(page, word)) {
+        if is_bad_entry(size, block_entry(page, word)) {
             return true;
         }
-        rest = behind;
+        rest = others;
     }
     false
 }

@@ -4,34 +4,22 @@ ghost use Rattle.pe_image.specs.Headers.{headers_of, sections_of};
 ghost use Rattle.pe_image.specs.ImageRules.{is_short, lacks_mz, lacks_pe, is_for_another_machine, lacks_optional_header, is_no_driver, is_stripped, has_bad_size, has_bad_headers, is_misplaced, has_misplaced_section, has_bad_relocations, has_bad_entry, refusal_of};
 
 use crate::fields::{
-    characteristics, entry, machine, magic, optional_header, optional_size, section_count,
+    characteristics, entry_point, machine, magic, optional_header, optional_size, section_count,
     section_table, signature, size_of_headers, size_of_image, subsystem,
 };
 use crate::numbers::bytes_from;
 use crate::relocations::{directory_at, directory_place, has_directory, is_bad_directory};
 use crate::sections::{SectionHeader, section_at};
-use fw_types::PeRefusal;
+use fw_types::{BOOT_SERVICE_DRIVER, MACHINE_EBC, MOST_FILE_BYTES, PeRefusal, RUNTIME_DRIVER};
 
 /// The size of a DOS header (PE/COFF: MS-DOS Stub).
 const DOS_HEADER: usize = 64;
 
-/// EBC (PE/COFF: Machine Types).
-const MACHINE_EBC: u16 = 0x0EBC;
-
 /// PE32+ (PE/COFF: Optional Header).
 const MAGIC_PE32_PLUS: u16 = 0x020B;
 
-/// The size of the optional header in front of the data directories.
+/// The size of the optional header without the data directories.
 const WITHOUT_DIRECTORIES: u16 = 112;
-
-/// EFI boot service driver (PE/COFF: Windows Subsystem).
-const BOOT_SERVICE_DRIVER: u16 = 11;
-
-/// EFI runtime driver (PE/COFF: Windows Subsystem).
-const RUNTIME_DRIVER: u16 = 12;
-
-/// The largest image, 16 MiB.
-const LONGEST: u32 = 0x0100_0000;
 
 /// The most sections.
 const MOST_SECTIONS: u16 = 96;
@@ -96,7 +84,7 @@ fn lacks_mz(bytes: &[u8]) -> bool
     !bytes.starts_with(b"MZ")
 }
 
-/// Whether there is no PE signature with room for a COFF file header behind it.
+/// Whether there is no PE signature with room for a COFF file header after it.
 #[tactic(auto, unfolding(crate::specs::ImageRules::lacks_pe))]
 fn lacks_pe(bytes: &[u8]) -> bool
     ensures { result ≡ lacks_pe bytes.now }
@@ -113,7 +101,7 @@ fn is_for_another_machine(bytes: &[u8]) -> bool
     machine(bytes) != MACHINE_EBC
 }
 
-/// Whether the optional header is too small, passes the file's end or is none of PE32+.
+/// Whether the optional header is too small, passes the file's end or is not that of PE32+.
 #[tactic(auto, unfolding(crate::specs::ImageRules::lacks_optional_header))]
 fn lacks_optional_header(bytes: &[u8]) -> bool
     ensures { result ≡ lacks_optional_header bytes.now }
@@ -147,10 +135,11 @@ fn has_bad_size(bytes: &[u8]) -> bool
     ensures { result ≡ has_bad_size bytes.now }
 {
     let size = size_of_image(bytes);
-    size == 0 || size > LONGEST
+    size == 0 || u64::from(size) > MOST_FILE_BYTES
 }
 
-/// Whether the headers pass the image's or the file's end, or the section table is too long for them.
+/// Whether the headers pass the image's or the file's end, or the section table is too long for
+/// them.
 #[tactic(auto, unfolding(crate::specs::ImageRules::has_bad_headers))]
 fn has_bad_headers(bytes: &[u8]) -> bool
     ensures { result ≡ has_bad_headers bytes.now }
@@ -163,8 +152,8 @@ fn has_bad_headers(bytes: &[u8]) -> bool
         || section_table(bytes) + 40 * usize::from(count) > size as usize
 }
 
-/// Whether a section meets what stands in front of it, passes the image's end, or is copied from past
-/// the file's end.
+/// Whether a section meets what comes before it, passes the image's end, or is copied from past the
+/// file's end.
 #[tactic(auto, unfolding(crate::specs::ImageRules::has_misplaced_section))]
 fn has_misplaced_section(bytes: &[u8]) -> bool
     ensures { result ≡ has_misplaced_section bytes.now }
@@ -180,12 +169,13 @@ fn has_misplaced_section(bytes: &[u8]) -> bool
     false
 }
 
-/// Whether a section begins before the end of what stands in front of it, passes the image's end, or is
+/// Whether a section begins before the end of what comes before it, passes the image's end, or is
 /// copied from past the file's end.
 fn is_misplaced(bytes: &[u8], front: u64, section: SectionHeader) -> bool
-    ensures { result ≡ is_misplaced (length bytes.now) (headers_of bytes.now).size_of_image (front, section) }
+    ensures { result ≡
+        is_misplaced (length bytes.now) (headers_of bytes.now).size_of_image (front, section) }
 {
-    let copied = section.copied();
+    let copied = section.copied_size();
     u64::from(section.address) < front
         || section.end() > u64::from(size_of_image(bytes))
         || (copied != 0 && section.file_offset as usize + copied as usize > bytes.len())
@@ -210,6 +200,6 @@ fn has_bad_relocations(bytes: &[u8]) -> bool
 fn has_bad_entry(bytes: &[u8]) -> bool
     ensures { result ≡ has_bad_entry bytes.now }
 {
-    let entry = entry(bytes);
+    let entry = entry_point(bytes);
     entry % 2 == 1 || entry >= size_of_image(bytes)
 }

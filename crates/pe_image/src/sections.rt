@@ -1,14 +1,14 @@
 //! The section table.
 ghost use Rattle.std.specs.Prelude.{◌≡◌, ◌≤◌, ◌<◌, ◌+◌, ◌*◌, ◌^◌, find};
-ghost use Rattle.pe_image.specs.Headers.{headers_of, section_table, section_at, sections_of, extent_of, copied_of, end_of, has_address, has_copied, file_place};
+ghost use Rattle.pe_image.specs.Headers.{headers_of, section_table, section_at, sections_of, extent_of, copied_size, end_of, has_address, has_copied, file_place};
 
 use crate::fields::{section_count, section_table};
-use crate::numbers::long_at;
+use crate::numbers::u32_at;
 
 /// What the section table says of a section (PE/COFF: Section Table).
 #[derive(Clone, Copy, Debug)]
 pub struct SectionHeader {
-    /// How many bytes it has in the image; where this is 0, `raw_size` says it.
+    /// How many bytes it has in the image; if this is 0, `raw_size` says it.
     pub virtual_size: u32,
     /// Where it begins in the image.
     pub address: u32,
@@ -31,13 +31,13 @@ impl SectionHeader {
     }
 
     /// How many bytes of the section are copied from the file.
-    pub fn copied(self) -> u32
-        ensures { result ≡ copied_of self }
+    pub fn copied_size(self) -> u32
+        ensures { result ≡ copied_size self }
     {
         self.extent().min(self.raw_size)
     }
 
-    /// The place in the image behind the section.
+    /// The place in the image at which the section ends.
     pub fn end(self) -> u64
         ensures { result ≡ end_of self }
     {
@@ -57,7 +57,7 @@ impl SectionHeader {
     {
         self.address <= place
             && u64::from(place) + u64::from(count)
-                <= u64::from(self.address) + u64::from(self.copied())
+                <= u64::from(self.address) + u64::from(self.copied_size())
     }
 
     /// Where the file has the byte of a place of the image that is copied.
@@ -74,14 +74,14 @@ pub fn section_at(bytes: &[u8], index: u16) -> SectionHeader
 {
     let place = section_table(bytes) + 40 * usize::from(index);
     SectionHeader {
-        virtual_size: long_at(bytes, place + 8),
-        address: long_at(bytes, place + 12),
-        raw_size: long_at(bytes, place + 16),
-        file_offset: long_at(bytes, place + 20),
+        virtual_size: u32_at(bytes, place + 8),
+        address: u32_at(bytes, place + 12),
+        raw_size: u32_at(bytes, place + 16),
+        file_offset: u32_at(bytes, place + 20),
     }
 }
 
-/// The section that has an address of the image.
+/// The section that has a place of the image.
 #[tactic(auto, unfolding(crate::specs::Headers::sections_of))]
 pub fn section_with(bytes: &[u8], place: u32) -> Option<SectionHeader>
     ensures { result ≡ find (has_address place) (sections_of bytes.now) }
@@ -91,7 +91,7 @@ pub fn section_with(bytes: &[u8], place: u32) -> Option<SectionHeader>
         .find(|section| section.has_address(place))
 }
 
-/// The section of which so many bytes at an address of the image are copied from the file.
+/// The section from which so many bytes at a place of the image are copied.
 #[tactic(auto, unfolding(crate::specs::Headers::sections_of))]
 pub fn section_with_copied(bytes: &[u8], place: u32, count: u32) -> Option<SectionHeader>
     ensures { result ≡ find (has_copied place count) (sections_of bytes.now) }

@@ -6,8 +6,8 @@ use std::test::Fail;
 /// A byte at a place.
 type Change = (usize, u8);
 
-/// The bytes of the smallest image that are not 0: headers of 512 bytes, then the code 77 37 00 00 04 00
-/// (`MOVIqw R7, 0` and `RET`) and zeros up to 1,024.
+/// The bytes of the smallest image that are not 0: headers of 512 bytes, then the code 77 37 00 00
+/// 04 00 (`MOVIqw R7, 0` and `RET`) and zeros up to 1,024.
 const SMALLEST: [Change; 31] = [
     (0x00, 0x4D),
     (0x01, 0x5A),
@@ -42,9 +42,9 @@ const SMALLEST: [Change; 31] = [
     (0x204, 0x04),
 ];
 
-/// What makes a relocation directory in the smallest image: the section has 24 bytes, of which the last
-/// ten from 0x208 on are the directory, with one entry in one block at page 0. The entry says 8 bytes at
-/// 0x3F8, the last of the image.
+/// What makes a relocation directory in the smallest image: the section has 24 bytes, of which the
+/// last ten from 0x208 on are the directory, with one entry in one block at page 0. The entry says
+/// 8 bytes at 0x3F8, the last of the image.
 const DIRECTORY: [Change; 7] = [
     (0x100, 0x18),
     (0xF0, 0x08),
@@ -126,7 +126,7 @@ fn fronts_of_the_smallest_image(rt: HostRuntime) -> Result<(), Fail> {
 const RULES: [(&[Change], Option<PeRefusal>); 46] = [
     (&[(0x00, 0x4C)], Some(PeRefusal::NoMz)),
     (&[(0x01, 0x5B)], Some(PeRefusal::NoMz)),
-    // the signature, and room for the COFF file header behind it
+    // the signature, and room for the COFF file header after it
     (&[(0x3C, 0x41)], Some(PeRefusal::NoPe)),
     (&[(0x41, 0x44)], Some(PeRefusal::NoPe)),
     (&[(0x43, 0x01)], Some(PeRefusal::NoPe)),
@@ -172,18 +172,18 @@ const RULES: [(&[Change], Option<PeRefusal>); 46] = [
     // the section table ends in the headers
     (&[(0x94, 0x20), (0x95, 0x01)], None),
     (&[(0x94, 0x1F), (0x95, 0x01)], Some(PeRefusal::Headers)),
-    // a section stands behind the headers
+    // a section begins after the headers
     (&[(0x104, 0xFF), (0x105, 0x01)], Some(PeRefusal::Section)),
     // its extent, by either size, lies in the image
     (&[(0x100, 0x00), (0x101, 0x02)], None),
     (&[(0x100, 0x01), (0x101, 0x02)], Some(PeRefusal::Section)),
     (&[(0x100, 0x00)], None),
     (&[(0x100, 0x00), (0x108, 0x01)], Some(PeRefusal::Section)),
-    // what is copied lies in the file; where nothing is, the file offset doesn't count
+    // what is copied lies in the file; if nothing is copied, the file offset does not count
     (&[(0x10C, 0xFA), (0x10D, 0x03)], None),
     (&[(0x10C, 0xFB), (0x10D, 0x03)], Some(PeRefusal::Section)),
     (&[(0x109, 0x00), (0x10F, 0xFF)], None),
-    // the second section stands behind the first
+    // the second section begins after the first
     (&[(0x46, 0x02), (0x12C, 0x06), (0x12D, 0x02)], None),
     (
         &[(0x46, 0x02), (0x12C, 0x05), (0x12D, 0x02)],
@@ -412,14 +412,14 @@ fn relocations_are_applied(rt: HostRuntime) -> Result<(), Fail> {
 
 /// Changes of the smallest image, a place, and the byte that the laid image has there.
 const PLACED: [(&[Change], usize, u8); 8] = [
-    // what is behind the headers or a section in the file is not in the image
+    // what follows the headers or a section in the file is not in the image
     (&[(0x11F, 0x11), (0x94, 0x20), (0x95, 0x01)], 0x11F, 0x11),
     (&[(0x120, 0x11), (0x94, 0x20), (0x95, 0x01)], 0x120, 0),
     (&[(0x206, 0x11)], 0x206, 0),
     // a section is longer in the image than in the file
     (&[(0x3FF, 0x11), (0x101, 0x03), (0x91, 0x06)], 0x3FF, 0x11),
     (&[(0x101, 0x03), (0x91, 0x06)], 0x400, 0),
-    // it stands elsewhere in the file
+    // it is elsewhere in the file
     (&[(0x10C, 0xF8), (0x10D, 0x00)], 0x200, 0x2E),
     (&[(0x10C, 0xF8), (0x10D, 0x00)], 0x204, 0x74),
     // and elsewhere in the image
@@ -469,7 +469,7 @@ fn code_ends_with_its_section(rt: HostRuntime) -> Result<(), Fail> {
     Ok(())
 }
 
-/// The refusal of a file with headers of 4,352 bytes and empty sections behind them.
+/// The refusal of a file with headers of 4,352 bytes and empty sections after them.
 fn with_sections(alloc: Global, count: u8) -> Result<Option<PeRefusal>, AllocError> {
     let mut bytes = vec![in alloc; 0; 4352]?;
     put(&mut bytes, &SMALLEST);

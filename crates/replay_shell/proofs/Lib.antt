@@ -1,5 +1,4 @@
 pub mod CallLemmas
-pub mod LinesLemmas
 pub mod LoadLemmas
 pub mod ReplayLemmas
 pub mod ReportLemmas

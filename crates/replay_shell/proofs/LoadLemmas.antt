@@ -6,19 +6,18 @@ use Rattle.fw_types.specs.declared.event.Outcome.{Outcome}
 use Rattle.fw_types.specs.declared.image.PeRefusal.{PeRefusal}
 use Rattle.pe_image.specs.ImageRules.{entry_of, refusal_of, size_of, subsystem_of}
 use Rattle.pe_image.specs.LaidImage.{laid}
-use Rattle.world_model.specs.World.{Held, Soft, State, on_hard, on_soft}
+use Rattle.world_model.specs.World.{WorldView, Soft, State, on_hard, on_soft}
 use Rattle.world_model.specs.Units.{units_spent}
 use Rattle.world_model.specs.Images.{entry_of as entry_in, is_image_full}
 use Rattle.world_model.specs.Marks.{marked, put_back, stacks}
-use Rattle.world_model.proofs.StacksStand.{adding}
+use Rattle.world_model.proofs.StackLaws.{adding}
 use Rattle.image_table.specs.declared.fault.PlaceFault.{PlaceFault}
-use Rattle.image_table.specs.declared.fault.PlaceFault.TheVariants as place
 use Rattle.image_table.specs.Placing.{added_unless_full, file_added, laying_price, place_answer, placed, placed_unless}
-use Rattle.replay_shell.specs.declared.image_life.Loading.{Loading}
+use Rattle.replay_shell.specs.declared.image_life.ImageLoad.{ImageLoad}
 use Rattle.driver_model.specs.DriverCall.{entry_called, entry_made, kept_or_undone}
 use Rattle.driver_model.specs.Spending.{Spends}
-use Rattle.replay_shell.specs.Machine.{IsOnTrial, kept_soft}
-use Rattle.replay_shell.specs.ImageLife.{came_of, entered, load_by, loaded}
+use Rattle.replay_shell.specs.Machine.{IsOnTrial, marked_soft}
+use Rattle.replay_shell.specs.ImageLife.{entered, loaded, loaded_by}
 
 -- ---- placing
 
@@ -50,51 +49,49 @@ stacks-placed file w = (leaves_unless (refusal_of file) file w).same_stacks
 
 -- ---- the mark of a load
 
-kept_soft-is : (w : Held) (before : Soft) → w.kept ≡ before ∷ [] → kept_soft w ≡ before
-kept_soft-is w before marked = ap (λ (kept : List Soft). (put_back kept w.now).soft) marked
+marked_soft-is : (w : WorldView) (before : Soft) → w.marks ≡ before ∷ [] → marked_soft w ≡ before
+marked_soft-is w before marked = ap (λ (kept : List Soft). (put_back kept w.now).soft) marked
 
--- a world whose one mark keeps a soft part without stacks, and that has none itself
-pub trial_of : (w : Held) (before : Soft) → w.kept ≡ before ∷ [] → stacks w.now.soft ≡ [] → stacks before ≡ [] → IsOnTrial w
+-- a world without stacks, whose one mark was made when there were none
+pub trial_of : (w : WorldView) (before : Soft) → w.marks ≡ before ∷ [] → stacks w.now.soft ≡ [] → stacks before ≡ [] → IsOnTrial w
 trial_of w before marked none was_none =
-    let same = kept_soft-is w before marked in
+    let same = marked_soft-is w before marked in
     record {
       marked_once = marked ∙ ap (λ (soft : Soft). soft ∷ []) (sym same);
       stackless = none;
       was_stackless = ap stacks same ∙ was_none;
     }
 
-pub kept_soft-still : (old new : Held) → IsOnTrial old → new.kept ≡ old.kept → kept_soft new ≡ kept_soft old
-kept_soft-still old new trial same = kept_soft-is new (kept_soft old) (same ∙ trial.marked_once)
-
--- ---- a load whose image is not placed
+pub marked_soft-still : (old new : WorldView) → IsOnTrial old → new.marks ≡ old.marks → marked_soft new ≡ marked_soft old
+marked_soft-still old new trial same = marked_soft-is new (marked_soft old) (same ∙ trial.marked_once)
 
 -- ---- a load whose image is placed
 
--- the entry is called where the image has it, and what the mark keeps is put back where that fails
-pub entered_by : (image entry there : ℕ) (old made after : Held) (outcome : Outcome) (result : Result Loading OutOfMemory) → IsOnTrial old → made.kept ≡ old.kept
+-- the entry is called at its address in the image, and the soft part of the mark is put back if it fails
+pub entered-called : (image entry there : ℕ) (old made after : WorldView) (outcome : Outcome) (result : Result ImageLoad OutOfMemory) → IsOnTrial old → made.marks ≡ old.marks
     → entry_in image old.now.soft ≡ Some there → entry_in image old.now.soft ≡ Some entry → entry_made image there old.now ≡ (outcome, made.now)
-    → IfOk result (λ loading. entered image (kept_soft made) (kept_or_undone old.now.soft (outcome, made.now)) ≡ came_of loading after.now)
-    → IfOk result (λ loading. entered image (kept_soft old) (entry_called image entry old.now) ≡ came_of loading after.now)
-entered_by image entry there old made after outcome (Ok loading) trial same found is call done =
+    → IfOk result (λ load. entered image (marked_soft made) (kept_or_undone old.now.soft (outcome, made.now)) ≡ (load, after.now))
+    → IfOk result (λ load. entered image (marked_soft old) (entry_called image entry old.now) ≡ (load, after.now))
+entered-called image entry there old made after outcome (Ok load) trial same found is call done =
     let here : there ≡ entry = cc in
     let called : entry_made image entry old.now ≡ (outcome, made.now) = subst (λ (at : ℕ). entry_made image at old.now ≡ (outcome, made.now)) here call in
-    ap (λ (called : Outcome × State). entered image (kept_soft old) (kept_or_undone old.now.soft called)) called
-    ∙ ap (λ (soft : Soft). entered image soft (kept_or_undone old.now.soft (outcome, made.now))) (sym (kept_soft-still old made trial same))
+    ap (λ (called : Outcome × State). entered image (marked_soft old) (kept_or_undone old.now.soft called)) called
+    ∙ ap (λ (soft : Soft). entered image soft (kept_or_undone old.now.soft (outcome, made.now))) (sym (marked_soft-still old made trial same))
     ∙ done
-entered_by image entry there old made after outcome (Err error) trial same found is call done = tt
+entered-called image entry there old made after outcome (Err error) trial same found is call done = tt
 
--- an image is placed behind a mark, and entered
-pub loaded_by : (file : List ℕ) (image : ℕ) (old begun laid_in after : Held) (result : Result Loading OutOfMemory) → old.kept ≡ [] → begun ≡ marked old → laid_in.kept ≡ begun.kept
+-- an image is placed after a mark, and entered
+pub loaded-placed : (file : List ℕ) (image : ℕ) (old begun laid_in after : WorldView) (result : Result ImageLoad OutOfMemory) → old.marks ≡ [] → begun ≡ marked old → laid_in.marks ≡ begun.marks
     → place_answer file begun.now ≡ Ok image → laid_in.now ≡ placed file 0 begun.now
-    → IfOk result (λ loading. entered image (kept_soft laid_in) (entry_called image (begun.now.soft.next_image + entry_of file) laid_in.now) ≡ came_of loading after.now)
-    → IfOk result (λ loading. loaded file old.now ≡ came_of loading after.now)
-loaded_by file image old begun laid_in after (Ok loading) unmarked mark same answer now done =
-    let begins : begun.now ≡ old.now = ap (λ (w : Held). w.now) mark in
-    let keeps : laid_in.kept ≡ old.now.soft ∷ [] = same ∙ ap (λ (w : Held). w.kept) mark ∙ ap (λ (kept : List Soft). old.now.soft ∷ kept) unmarked in
-    let soft : kept_soft laid_in ≡ begun.now.soft = kept_soft-is laid_in old.now.soft keeps ∙ ap (λ (w : State). w.soft) (sym begins) in
+    → IfOk result (λ load. entered image (marked_soft laid_in) (entry_called image (begun.now.soft.next_image + entry_of file) laid_in.now) ≡ (load, after.now))
+    → IfOk result (λ load. loaded file old.now ≡ (load, after.now))
+loaded-placed file image old begun laid_in after (Ok load) unmarked mark same answer now done =
+    let begins : begun.now ≡ old.now = ap (λ (w : WorldView). w.now) mark in
+    let keeps : laid_in.marks ≡ old.now.soft ∷ [] = same ∙ ap (λ (w : WorldView). w.marks) mark ∙ ap (λ (kept : List Soft). old.now.soft ∷ kept) unmarked in
+    let soft : marked_soft laid_in ≡ begun.now.soft = marked_soft-is laid_in old.now.soft keeps ∙ ap (λ (w : State). w.soft) (sym begins) in
     ap (loaded file) (sym begins)
-    ∙ ap (λ (told : Result ℕ PlaceFault). load_by told file begun.now) answer
+    ∙ ap (λ (placing : Result ℕ PlaceFault). loaded_by placing file begun.now) answer
     ∙ ap (λ (w : State). entered image begun.now.soft (entry_called image (begun.now.soft.next_image + entry_of file) w)) (sym now)
     ∙ ap (λ (before : Soft). entered image before (entry_called image (begun.now.soft.next_image + entry_of file) laid_in.now)) (sym soft)
     ∙ done
-loaded_by file image old begun laid_in after (Err error) unmarked mark same answer now done = tt
+loaded-placed file image old begun laid_in after (Err error) unmarked mark same answer now done = tt

@@ -6,7 +6,7 @@ use Rattle.std.proofs.lemmas.List.{append-nil}
 use Rattle.std.proofs.lemmas.Grind.{common_steps}
 use Rattle.fw_types.specs.declared.command.Command.{Command}
 use Rattle.fw_shelf.specs.Shelf.{Files}
-use Rattle.fw_shelf.specs.Sink.{with_bytes}
+use Rattle.fw_shelf.specs.Sink.{with_bytes, with_bytes-again}
 use Rattle.world_model.specs.World.{State}
 use Rattle.replay_shell.specs.DriverModel.{booted, exec, texts}
 use Rattle.replay_shell.specs.Headline.{EndsWith, answer, reads_at}
@@ -19,16 +19,12 @@ pub record SoFar (files : Files) (commands : List Command) (done : ℕ) (machine
   pub left : texts files machine (drop done commands) ≡ drop done (texts files booted commands)
   pub taken : now ≡ with_bytes old (concat (take done (texts files booted commands)))
 
--- bytes behind bytes
-pub with_bytes-with_bytes : (taken : Option (List ℕ)) (xs ys : List ℕ) → with_bytes (with_bytes taken xs) ys ≡ with_bytes taken (xs ++ ys)
-with_bytes-with_bytes None xs ys = refl
-with_bytes-with_bytes (Some before) xs ys = ap Some (append_assoc before xs ys)
-
+-- no bytes more
 pub with_bytes-nil : (taken : Option (List ℕ)) → with_bytes taken [] ≡ taken
 with_bytes-nil None = refl
 with_bytes-nil (Some before) = ap Some (append-nil before)
 
--- a list of lists with one that stands at a place
+-- a list of lists with one at a place
 concat-take : (xss rest : List (List ℕ)) (i : ℕ) (x : List ℕ) → drop i xss ≡ x ∷ rest → concat (take (suc i) xss) ≡ concat (take i xss) ++ x
 concat-take [] rest zero x h = absurd (cc)
 concat-take [] rest (suc i) x h = absurd (cc)
@@ -46,22 +42,22 @@ drop-suc [] rest (suc i) x h = absurd (cc)
 drop-suc (y ∷ ys) rest (suc i) x h = drop-suc ys rest i x h
 
 -- the command at a place
-pub record StandsAt (commands : List Command) (i : ℕ) (command : Command) : Type 0 where
+pub record IsAt (commands : List Command) (i : ℕ) (command : Command) : Type 0 where
   pub here : drop i commands ≡ command ∷ drop (suc i) commands
   pub got : slice_get commands i ≡ Some command
 
-pub stands_at : (commands : List Command) (i : ℕ) (command : Command) → i < length commands → command ≡ get_or commands i command → StandsAt commands i command
-stands_at [] i command within is = absurd (omega arith)
-stands_at (x ∷ xs) zero command within is = let same : x ≡ command = sym is in record { here = ap (λ (c : Command). c ∷ xs) same; got = ap Some same }
-stands_at (x ∷ xs) (suc i) command within is = let later = stands_at xs i command (omega arith) is in record { here = later.here; got = later.got }
+pub is_at : (commands : List Command) (i : ℕ) (command : Command) → i < length commands → command ≡ get_or commands i command → IsAt commands i command
+is_at [] i command within is = absurd (omega arith)
+is_at (x ∷ xs) zero command within is = let same : x ≡ command = sym is in record { here = ap (λ (c : Command). c ∷ xs) same; got = ap Some same }
+is_at (x ∷ xs) (suc i) command within is = let later = is_at xs i command (omega arith) is in record { here = later.here; got = later.got }
 
 -- the texts from a command on
-texts-here : (files : Files) (commands : List Command) (i : ℕ) (machine : State) (old now : Option (List ℕ)) (command : Command) → SoFar files commands i machine old now → StandsAt commands i command
+texts-here : (files : Files) (commands : List Command) (i : ℕ) (machine : State) (old now : Option (List ℕ)) (command : Command) → SoFar files commands i machine old now → IsAt commands i command
     → drop i (texts files booted commands) ≡ text_of files machine command ∷ texts files (exec command files machine).1 (drop (suc i) commands)
 texts-here files commands i machine old now command so_far there = sym so_far.left ∙ ap (texts files machine) there.here
 
 -- one command more
-pub SoFar-more : (files : Files) (commands : List Command) (i : ℕ) (machine next : State) (old now new : Option (List ℕ)) (command : Command) → SoFar files commands i machine old now → StandsAt commands i command
+pub SoFar-more : (files : Files) (commands : List Command) (i : ℕ) (machine next : State) (old now new : Option (List ℕ)) (command : Command) → SoFar files commands i machine old now → IsAt commands i command
     → next ≡ (exec command files machine).1 → new ≡ with_bytes now (text_of files machine command) → SoFar files commands (i + 1) next old new
 SoFar-more files commands i machine next old now new command so_far there went wrote =
     let all = texts files booted commands in
@@ -70,7 +66,7 @@ SoFar-more files commands i machine next old now new command so_far there went w
     let here : drop i all ≡ text ∷ rest = texts-here files commands i machine old now command so_far there in
     rw (add-one i) (record {
       left = ap (λ (m : State). texts files m (drop (suc i) commands)) went ∙ sym (drop-suc all rest i text here);
-      taken = wrote ∙ ap (λ (t : Option (List ℕ)). with_bytes t text) so_far.taken ∙ with_bytes-with_bytes old (concat (take i all)) text ∙ ap (with_bytes old) (sym (concat-take all rest i text here));
+      taken = wrote ∙ ap (λ (t : Option (List ℕ)). with_bytes t text) so_far.taken ∙ with_bytes-again old (concat (take i all)) text ∙ ap (with_bytes old) (sym (concat-take all rest i text here));
     })
 
 drop-past : (commands : List Command) (i : ℕ) → length commands ≤ i → drop i commands ≡ []
@@ -94,12 +90,12 @@ SoFar-end files commands i machine old now past so_far =
     let gone : drop i all ≡ [] = sym so_far.left ∙ ap (texts files machine) none in
     so_far.taken ∙ ap (λ (xss : List (List ℕ)). with_bytes old (concat xss)) (take-past all i gone)
 
-front-of : (xs ys : List ℕ) (n : ℕ) → take (length xs + n) (xs ++ ys) ≡ xs ++ take n ys
-front-of [] ys n = let same : 0 + n ≡ n = omega arith in ap (λ (k : ℕ). take k ys) same
-front-of (x ∷ xs) ys n = let next : suc (length xs) + n ≡ suc (length xs + n) = omega arith in rw next (ap (λ (zs : List ℕ). x ∷ zs) (front-of xs ys n))
+take-past-prefix : (xs ys : List ℕ) (n : ℕ) → take (length xs + n) (xs ++ ys) ≡ xs ++ take n ys
+take-past-prefix [] ys n = let same : 0 + n ≡ n = omega arith in ap (λ (k : ℕ). take k ys) same
+take-past-prefix (x ∷ xs) ys n = let next : suc (length xs) + n ≡ suc (length xs + n) = omega arith in rw next (ap (λ (zs : List ℕ). x ∷ zs) (take-past-prefix xs ys n))
 
--- how a replay ends where one command is the last
-pub stopped-here : (files : Files) (commands : List Command) (i : ℕ) (machine : State) (old now new : Option (List ℕ)) (command : Command) (stop : Stop) → SoFar files commands i machine old now → StandsAt commands i command
+-- how a replay ends if one command is the last
+pub stopped-here : (files : Files) (commands : List Command) (i : ℕ) (machine : State) (old now new : Option (List ℕ)) (command : Command) (stop : Stop) → SoFar files commands i machine old now → IsAt commands i command
     → TakesTurn files machine command (Err stop) now new → Replays files commands (Err stop) old new
 stopped-here files commands i machine old now new command Shelf so_far there took =
     let reads : reads_at commands i ≡ true = rw there.got took.0 in
@@ -109,25 +105,25 @@ stopped-here files commands i machine old now new command Memory so_far there to
     let text = text_of files machine command in
     let rest = texts files (exec command files machine).1 (drop (suc i) commands) in
     let here : drop i all ≡ text ∷ rest = texts-here files commands i machine old now command so_far there in
-    let front = concat (take i all) in
-    let whole : concat all ≡ front ++ (text ++ concat rest) = concat-split all rest i text here in
-    (length front + 0, took ∙ so_far.taken ∙ ap (with_bytes old) (sym (append-nil front) ∙ sym (front-of front (text ++ concat rest) 0) ∙ ap (take (length front + 0)) (sym whole)))
+    let before = concat (take i all) in
+    let whole : concat all ≡ before ++ (text ++ concat rest) = concat-split all rest i text here in
+    (length before + 0, took ∙ so_far.taken ∙ ap (with_bytes old) (sym (append-nil before) ∙ sym (take-past-prefix before (text ++ concat rest) 0) ∙ ap (take (length before + 0)) (sym whole)))
 stopped-here files commands i machine old now new command Sink so_far there took =
     let all = texts files booted commands in
     let text = text_of files machine command in
     let rest = texts files (exec command files machine).1 (drop (suc i) commands) in
     let here : drop i all ≡ text ∷ rest = texts-here files commands i machine old now command so_far there in
-    let front = concat (take i all) in
+    let before = concat (take i all) in
     let n = took.0 in
-    let whole : concat all ≡ front ++ (text ++ concat rest) = concat-split all rest i text here in
-    let short : length front + n < length (concat all) = rw whole (omega (arith, took.1, length-append front (text ++ concat rest), length-append text (concat rest))) in (
-      length front + n,
+    let whole : concat all ≡ before ++ (text ++ concat rest) = concat-split all rest i text here in
+    let short : length before + n < length (concat all) = rw whole (omega (arith, took.1, length-append before (text ++ concat rest), length-append text (concat rest))) in (
+      length before + n,
       short,
-      took.2 ∙ ap (λ (t : Option (List ℕ)). with_bytes t (take n text)) so_far.taken ∙ with_bytes-with_bytes old front (take n text)
-          ∙ ap (with_bytes old) (ap (λ (xs : List ℕ). front ++ xs) (sym (take-append-le n text (concat rest) took.1)) ∙ sym (front-of front (text ++ concat rest) n) ∙ ap (take (length front + n)) (sym whole)),
+      took.2 ∙ ap (λ (t : Option (List ℕ)). with_bytes t (take n text)) so_far.taken ∙ with_bytes-again old before (take n text)
+          ∙ ap (with_bytes old) (ap (λ (xs : List ℕ). before ++ xs) (sym (take-append-le n text (concat rest) took.1)) ∙ sym (take-past-prefix before (text ++ concat rest) n) ∙ ap (take (length before + n)) (sym whole)),
     )
 
--- where a replay stopped, so did the answer that is its report
+-- if a replay stopped, so did the answer that is its report
 pub EndsWith-stopped : (files : Files) (commands : List Command) (stop : Stop) (old new : Option (List ℕ)) → Replays files commands (Err stop) old new → EndsWith (answer 0 (concat (texts files booted commands))) files commands (Err stop) old new
 EndsWith-stopped files commands Shelf old new h = h
 EndsWith-stopped files commands Sink old new h = h

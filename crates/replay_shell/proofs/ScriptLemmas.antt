@@ -1,19 +1,21 @@
--- What the words of a text line are, and how a script goes on behind its first line.
+-- What the words of a text line are, and how a script goes on after its first line.
 use Rattle.std.proofs.Common.{◌≡◌, ℕ, zero, suc, ◌+◌, ◌<◌, ◌≤◌, List, [], ◌∷◌, ◌++◌, Bool, true, false, ◌&&◌, ◌||◌, cond, length, take, nat_eq, nat_lt, refl, sym, ap, ◌∙◌, arith, lit<, append_assoc}
-use Rattle.std.specs.Prelude.{Option, Some, None, Ok, Err, Result, filter, option_map}
+use Rattle.std.specs.Prelude.{Option, Some, None, Err, filter, option_map}
 use Rattle.std.specs.Option.{option_or, option_to_list}
 use Rattle.std.proofs.lemmas.List.{append-nil}
 use Rattle.std.specs.List.{before_first, cons_option, list_all, onto_first, position_or_len, slice_split}
 use Rattle.std.specs.Str.{IsAscii}
 use Rattle.std.specs.Str.Lines.{lines}
 use Rattle.std.proofs.lemmas.Bool.Decides.{nat_tests}
+use Rattle.text_lines.specs.Words.{is_blank, is_some_word, is_text_byte, word_at}
 use Rattle.fw_types.specs.declared.command.Command.{Command}
+use Rattle.replay_shell.specs.declared.script.TheConstants.{MOST_LINE_BYTES, MOST_LINES, MOST_NAME_BYTES}
 use Rattle.replay_shell.specs.declared.script.Script.{Script}
 use Rattle.replay_shell.specs.declared.script.ScriptKind.{ScriptKind}
 use Rattle.replay_shell.specs.declared.script.ScriptFault.{ScriptFault}
 use Rattle.replay_shell.specs.declared.script.ScriptFault.TheVariants.{Refused, OutOfMemory}
 use Rattle.replay_shell.specs.declared.script.ScriptKind.TheVariants.{TooLong}
-use Rattle.replay_shell.specs.ScriptGrammar.{Gives, are_text, commands_of, first_refused, is_blank, is_hash, is_load, is_some_word, is_text_byte, is_too_long, kind_of, line_of, line_unless, said, script_unless, word_at, words}
+use Rattle.replay_shell.specs.ScriptGrammar.{Gives, Reading, accepted, are_text, command_of, commands_of, first_refusal, is_hash, is_load, is_too_long, kind_of, line_of, line_unless, line_words, refused, script_unless}
 
 and-left : (a b : Bool) → (a && b) ≡ true → a ≡ true
 and-left true b h = refl
@@ -23,7 +25,7 @@ and-right : (a b : Bool) → (a && b) ≡ true → b ≡ true
 and-right true b h = h
 and-right false b h = cc
 
--- what passes a test passes it in a front, in the parts of a split, and in a filter
+-- what passes a test passes it in a prefix, in the parts of a split, and in a filter
 list_all-take : (p : ℕ → Bool) (n : ℕ) (xs : List ℕ) → list_all p xs ≡ true → list_all p (take n xs) ≡ true
 list_all-take p zero xs h = refl
 list_all-take p (suc n) [] h = refl
@@ -48,8 +50,8 @@ list_all-filter p q (x ∷ xs) h =
     elim (q x) as (λ b. list_all p (cond b (x ∷ filter q xs) (filter q xs)) ≡ true) [ true ↦ rw first rest | false ↦ rest ]
 
 -- the words of a text line are text
-pub are_text-words : (line : List ℕ) → list_all is_text_byte line ≡ true → are_text (words line) ≡ true
-are_text-words line h =
+pub are_text-line_words : (line : List ℕ) → list_all is_text_byte line ≡ true → are_text (line_words line) ≡ true
+are_text-line_words line h =
     list_all-filter (list_all is_text_byte) is_some_word (slice_split is_blank (before_first is_hash line)) (list_all-slice_split is_text_byte is_blank (before_first is_hash line) (list_all-take is_text_byte (position_or_len is_hash line) line h))
 
 -- and so is each of them
@@ -67,59 +69,62 @@ IsAscii-text [] h i = lit< tt
 IsAscii-text (x ∷ xs) h zero = text-below x (and-left (is_text_byte x) (list_all is_text_byte xs) h)
 IsAscii-text (x ∷ xs) h (suc i) = IsAscii-text xs (and-right (is_text_byte x) (list_all is_text_byte xs) h) i
 
-pub ruleset line_text = (are_text-words, word_at-text)
+pub ruleset line_text = (are_text-line_words, word_at-text)
 
--- The script that lines, counted from a number on, say behind commands.
-abbrev pub script_from : List Command → ℕ → List (List ℕ) → Result Script ScriptFault
-script_from before number ls = script_unless (first_refused number ls) (before ++ commands_of ls)
+-- The script of some commands and of the lines after them, which count from a number.
+abbrev pub script_from : List Command → ℕ → List (List ℕ) → Reading Script
+script_from before number ls = script_unless (first_refusal number ls) (before ++ commands_of ls)
 
-line_unless-Ok : (kind : Option ScriptKind) (number : ℕ) (saying command : Option Command) → line_unless kind number saying ≡ Ok command → (kind ≡ None) × (saying ≡ command)
-line_unless-Ok None number saying command h = (refl, cc)
-line_unless-Ok (Some kind) number saying command h = absurd (cc)
+line_unless-accepted : (kind : Option ScriptKind) (number : ℕ) (here command : Option Command) → line_unless kind number here ≡ accepted command → (kind ≡ None) × (here ≡ command)
+line_unless-accepted None number here command h = (refl, cc)
+line_unless-accepted (Some kind) number here command h = absurd (cc)
 
 cons_option-list : {X : Type 0} (item : Option X) (xs : List X) → cons_option item xs ≡ option_to_list item ++ xs
 cons_option-list None xs = refl
 cons_option-list (Some x) xs = refl
 
 -- a line that is not refused
-pub script_from-line : (before : List Command) (number : ℕ) (line : List ℕ) (later : List (List ℕ)) (command : Option Command) → line_of number line ≡ Ok command
+pub script_from-line : (before : List Command) (number : ℕ) (line : List ℕ) (later : List (List ℕ)) (command : Option Command) → line_of number line ≡ accepted command
     → script_from before number (line ∷ later) ≡ script_from (before ++ option_to_list command) (number + 1) later
 script_from-line before number line later command h =
-    let parts = line_unless-Ok (kind_of number line) number (said (words line)) command h in
-    rw (parts.0, parts.1) (ap (script_unless (first_refused (number + 1) later)) (ap (λ (xs : List Command). before ++ xs) (cons_option-list command (commands_of later)) ∙ sym (append_assoc before (option_to_list command) (commands_of later))))
+    let parts = line_unless-accepted (kind_of number line) number (command_of (line_words line)) command h in
+    rw (parts.0, parts.1) (ap (script_unless (first_refusal (number + 1) later)) (ap (λ (xs : List Command). before ++ xs) (cons_option-list command (commands_of later)) ∙ sym (append_assoc before (option_to_list command) (commands_of later))))
 
-refused-first : (kind : Option ScriptKind) (number : ℕ) (saying : Option Command) (later : Option (ℕ × ScriptKind)) (commands : List Command) (fault : ScriptFault) → line_unless kind number saying ≡ Err fault
-    → script_unless (option_or (option_map (λ (k : ScriptKind). (number, k)) kind) later) commands ≡ Err fault
-refused-first None number saying later commands fault h = absurd (cc)
-refused-first (Some kind) number saying later commands fault h = cc
+refused-first : (kind : Option ScriptKind) (number : ℕ) (here : Option Command) (later : Option (ℕ × ScriptKind)) (commands : List Command) (at : ℕ) (why : ScriptKind) → line_unless kind number here ≡ refused at why
+    → script_unless (option_or (option_map (λ (k : ScriptKind). (number, k)) kind) later) commands ≡ refused at why
+refused-first None number here later commands at why h = absurd (cc)
+refused-first (Some kind) number here later commands at why h =
+    let same_number : number ≡ at = cc in
+    let same_kind : kind ≡ why = cc in
+    rw (same_number, same_kind) refl
 
 -- a line that is refused
-pub script_from-refused : (before : List Command) (number : ℕ) (line : List ℕ) (later : List (List ℕ)) (fault : ScriptFault) → line_of number line ≡ Err fault → script_from before number (line ∷ later) ≡ Err fault
-script_from-refused before number line later fault h =
-    refused-first (kind_of number line) number (said (words line)) (first_refused (number + 1) later) (before ++ commands_of (line ∷ later)) fault h
+pub script_from-refused : (before : List Command) (number : ℕ) (line : List ℕ) (later : List (List ℕ)) (at : ℕ) (why : ScriptKind) → line_of number line ≡ refused at why → script_from before number (line ∷ later) ≡ refused at why
+script_from-refused before number line later at why h =
+    refused-first (kind_of number line) number (command_of (line_words line)) (first_refusal (number + 1) later) (before ++ commands_of (line ∷ later)) at why h
 
 -- no line
-pub script_from-end : (before : List Command) (number : ℕ) → script_from before number [] ≡ Ok (record { commands = before })
-script_from-end before number = ap (λ (xs : List Command). Ok (record { commands = xs })) (append-nil before)
+pub script_from-end : (before : List Command) (number : ℕ) → script_from before number [] ≡ accepted (record { commands = before })
+script_from-end before number = ap (λ (xs : List Command). accepted (record { commands = xs })) (append-nil before)
 
 or-middle : (a b : Bool) → (a || true || b) ≡ true
 or-middle true b = refl
 or-middle false b = refl
 
--- only the first 100,000 lines may say something
-pub number-small : (number : ℕ) (line : List ℕ) (command : Option Command) → line_of number line ≡ Ok command → number ≤ 100000
+-- only the first 100,000 lines may be accepted
+pub number-small : (number : ℕ) (line : List ℕ) (command : Option Command) → line_of number line ≡ accepted command → number ≤ MOST_LINES
 number-small number line command h =
-    elim (nat_lt 100000 number) as (λ b. nat_lt 100000 number ≡ b → number ≤ 100000) [
+    elim (nat_lt MOST_LINES number) as (λ b. nat_lt MOST_LINES number ≡ b → number ≤ MOST_LINES) [
       | true ↦ λ late.
-          let long : is_too_long number line (words line) ≡ true = rw late (or-middle (nat_lt 1024 (length line)) (is_load (words line) && nat_lt 255 (length (word_at (words line) 1)))) in
+          let long : is_too_long number line (line_words line) ≡ true = rw late (or-middle (nat_lt MOST_LINE_BYTES (length line)) (is_load (line_words line) && nat_lt MOST_NAME_BYTES (length (word_at (line_words line) 1)))) in
           let refused : kind_of number line ≡ Some TooLong = rw long refl in
-          absurd (let none : kind_of number line ≡ None = (line_unless-Ok (kind_of number line) number (said (words line)) command h).0 in cc)
+          absurd (let none : kind_of number line ≡ None = (line_unless-accepted (kind_of number line) number (command_of (line_words line)) command h).0 in cc)
       | false ↦ λ early. grind (arith, nat_tests)
     ] refl
 
--- what a refused line tells of the whole
+-- a refused line refuses the whole
 pub Gives-refused : (before : List Command) (number : ℕ) (line : List ℕ) (later : List (List ℕ)) (fault : ScriptFault) → Gives {T = Option Command} (Err fault) (line_of number line) → Gives {T = Script} (Err fault) (script_from before number (line ∷ later))
-Gives-refused before number line later (Refused at kind) h = script_from-refused before number line later (Refused at kind) h
+Gives-refused before number line later (Refused at kind) h = script_from-refused before number line later at kind h
 Gives-refused before number line later OutOfMemory h = tt
 
 -- no byte makes no line

@@ -1,83 +1,72 @@
 -- The driver-model machine: what each command gives, and the replies to a script.
-use Rattle.std.specs.Prelude.{ℕ, ◌-◌, List, [], ◌∷◌, None, Option, Some, Result, Ok, Err, if◌then◌else◌}
-use Rattle.fw_types.specs.declared.status.Status.{Status}
+use Rattle.std.specs.Prelude.{ℕ, ◌-◌, Bool, true, List, [], ◌∷◌, None, Some, if◌then◌else◌}
+use Rattle.fw_types.specs.declared.limits.TheConstants.{COMMAND_BUDGET}
+use Rattle.fw_types.specs.declared.status.TheConstants.Status.{LOAD_ERROR, NOT_FOUND}
 use Rattle.fw_types.specs.declared.command.Command.{Command}
-use Rattle.fw_types.specs.declared.command.Command.TheVariants as command
-use Rattle.fw_types.specs.declared.image.ImageNote.{ImageNote}
+use Rattle.fw_types.specs.declared.command.Command.TheVariants.{Load}
 use Rattle.fw_types.specs.declared.image.RomEnd.{RomEnd}
 use Rattle.fw_types.specs.declared.reply.Reply.{Reply}
-use Rattle.fw_shelf.specs.Shelf.{Files, file_of}
-use Rattle.fw_shelf.specs.declared.shelf.ShelfFault.{ShelfFault}
+use Rattle.fw_shelf.specs.Shelf.{Files, NamedFile, absent, file_of, present, too_long}
 use Rattle.option_rom.specs.RomGrammar.{rom_in}
 use Rattle.world_model.specs.World.{State, on_hard}
 use Rattle.world_model.specs.Events.{command_begun, events_taken}
 use Rattle.world_model.specs.Opening.{opening}
+use Rattle.replay_shell.specs.declared.image_life.ImageLoad.{ImageLoad}
 use Rattle.replay_shell.specs.declared.machine.Ending.{Ending}
-use Rattle.replay_shell.specs.ImageLife.{Load, load_error, loaded, not_found}
-use Rattle.replay_shell.specs.RomLoad.{Tried, is_rom, none_tried, rom_status, with_images}
+use Rattle.replay_shell.specs.declared.rom_load.RomTally.{RomTally}
+use Rattle.replay_shell.specs.ImageLife.{loaded}
+use Rattle.replay_shell.specs.RomLoad.{is_rom, no_images, rom_status, with_images}
 use Rattle.replay_shell.specs.Report.{reply_text}
-
--- the units of each command
-abbrev pub command_budget : ℕ
-command_budget = 4194304
 
 -- the machine at first: the opening state, in which no image is loaded
 abbrev pub booted : State
 booted = opening.now
 
--- what a command came to: notes on its images, how the option ROM ended that it loaded, its status, and
--- the world then
-pub record Done : Type 0 where
-  pub images : List ImageNote
-  pub rom : Option RomEnd
-  pub status : Status
-  pub world : State
+-- whether a command reads a file
+abbrev pub reads_file : Command → Bool
+reads_file (Load name) = true
 
--- what the code tells of a command, with the world behind it
-abbrev pub came_of : Ending → State → Done
-came_of ending w = record { images = ending.images.items; rom = ending.rom; status = ending.status; world = w }
+-- how the load of one image ends
+abbrev pub image_ending : ImageLoad × State → Ending × State
+image_ending (load, w) = (record { images = load.note ∷ []; rom = None; status = load.status }, w)
 
--- a file of one image was loaded
-abbrev pub noted : Load → Done
-noted load = record { images = load.note ∷ []; rom = None; status = load.status; world = load.world }
+-- how the load of an option ROM ends
+abbrev pub rom_ending : RomEnd → RomTally × State → Ending × State
+rom_ending end (tally, w) = (record { images = tally.notes; rom = Some end; status = rom_status tally }, w)
 
--- the images of an option ROM were tried
-abbrev pub rom_noted : Tried → RomEnd → Done
-rom_noted tried end = record { images = tried.notes; rom = Some end; status = rom_status tried; world = tried.world }
+-- how the load of a file ends, which is an option ROM or one image
+abbrev pub file_ending : List ℕ → State → Ending × State
+file_ending file w =
+    if is_rom file then rom_ending (rom_in file).end (with_images (rom_in file).images (no_images, w))
+    else image_ending (loaded file w)
 
--- a load of a file: an option ROM, or one image
-abbrev pub file_done : List ℕ → State → Done
-file_done file w =
-    if is_rom file then rom_noted (with_images (rom_in file).images (none_tried w)) (rom_in file).end
-    else noted (loaded file w)
+-- how a load ends: there is no file, there is one, or there is one that is too long
+abbrev pub load_ending : NamedFile → State → Ending × State
+load_ending absent w = (record { images = []; rom = None; status = NOT_FOUND }, w)
+load_ending (present file) w = file_ending file w
+load_ending too_long w = (record { images = []; rom = None; status = LOAD_ERROR }, w)
 
--- a load of what stands under a name: a file, nothing, or a file that is too long
-abbrev pub load_done : Result (Option (List ℕ)) ShelfFault → State → Done
-load_done (Ok None) w = record { images = []; rom = None; status = not_found; world = w }
-load_done (Ok (Some file)) w = file_done file w
-load_done (Err fault) w = record { images = []; rom = None; status = load_error; world = w }
-
--- the reply tells the units that were spent, and takes the events away
-abbrev pub replied : Done → Reply × State
-replied done = (
+-- the reply has the units that were spent and the events, which are taken away
+abbrev pub reply_to : Ending × State → Reply × State
+reply_to (ending, w) = (
   record {
-    status = done.status;
-    units = command_budget - done.world.hard.units;
-    events = done.world.hard.events;
-    images = done.images;
-    rom = done.rom;
+    status = ending.status;
+    units = COMMAND_BUDGET - w.hard.units;
+    events = w.hard.events;
+    images = ending.images;
+    rom = ending.rom;
     dump = [];
   },
-  on_hard events_taken done.world,
+  on_hard events_taken w,
 )
 
--- what a command gives over files, and the machine behind it
+-- the reply to a command over files, and the machine after it
 abbrev pub exec : Command → Files → State → Reply × State
-exec (command.Load name) files w = replied (load_done (file_of files name) (on_hard (command_begun command_budget) w))
+exec (Load name) files w = reply_to (load_ending (file_of files name) (on_hard (command_begun COMMAND_BUDGET) w))
 
 -- the texts of commands and their replies, one after the other
 abbrev pub texts : Files → State → List Command → List (List ℕ)
 texts files w [] = []
 texts files w (command ∷ commands) =
-    let done : Reply × State = exec command files w in
-    reply_text command done.0 ∷ texts files done.1 commands
+    let after : Reply × State = exec command files w in
+    reply_text command after.0 ∷ texts files after.1 commands

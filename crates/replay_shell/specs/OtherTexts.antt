@@ -1,4 +1,4 @@
--- What the program writes beside a report: one line each.
+-- What the program writes besides a report: one line each.
 use Rattle.std.specs.Prelude.{ℕ, List, [], ◌∷◌, ◌++◌, codes}
 use Rattle.std.specs.Fmt.{decimal}
 use Rattle.fw_types.specs.declared.image.PeRefusal.{PeRefusal}
@@ -10,7 +10,7 @@ use Rattle.replay_shell.specs.Report.{line, refusal_word}
 abbrev pub usage_line : List ℕ
 usage_line = codes "usage: run SCRIPT, check SCRIPT, selftest N, disasm IMAGE" ++ 10 ∷ []
 
--- no file stands under the name
+-- there is no file under the name
 abbrev pub absent_line : List ℕ
 absent_line = codes "no such file" ++ 10 ∷ []
 
@@ -18,6 +18,7 @@ absent_line = codes "no such file" ++ 10 ∷ []
 abbrev pub too_long_line : List ℕ
 too_long_line = codes "file too long" ++ 10 ∷ []
 
+-- why a line is refused
 abbrev pub kind_word : ScriptKind → List ℕ
 kind_word TooLong = codes "TooLong"
 kind_word NotAscii = codes "NotAscii"

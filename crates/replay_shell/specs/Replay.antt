@@ -3,15 +3,15 @@ use Rattle.std.specs.Prelude.{◌≡◌, true, List, ℕ, Option, Result, Ok, Er
 use Rattle.std.specs.List.{concat}
 use Rattle.fw_types.specs.declared.command.Command.{Command}
 use Rattle.fw_shelf.specs.Shelf.{Files}
-use Rattle.fw_shelf.specs.Sink.{with_bytes, TakesPrefix}
+use Rattle.fw_shelf.specs.Sink.{with_bytes, TakesProperPrefix}
 use Rattle.world_model.specs.World.{State}
 use Rattle.replay_shell.specs.declared.machine.ExecFault.{ExecFault}
 use Rattle.replay_shell.specs.declared.machine.ExecFault.TheVariants.{ShelfFailed, OutOfMemory}
 use Rattle.replay_shell.specs.declared.replay.Stop.{Stop}
 use Rattle.replay_shell.specs.declared.replay.Stop.TheVariants.{Shelf, Sink, Memory}
 use Rattle.replay_shell.specs.Report.{reply_text}
-use Rattle.replay_shell.specs.DriverModel.{booted, exec, texts}
-use Rattle.replay_shell.specs.Headline.{StopsAtRead, TakesFront, reads_file}
+use Rattle.replay_shell.specs.DriverModel.{booted, exec, reads_file, texts}
+use Rattle.replay_shell.specs.Headline.{StopsAtRead, TakesPrefix}
 
 -- the stop that a fault of the machine makes
 abbrev pub stop_of : ExecFault → Stop
@@ -26,12 +26,12 @@ text_of files w command = reply_text command (exec command files w).0
 abbrev pub TakesTurn : Files → State → Command → Result State Stop → Option (List ℕ) → Option (List ℕ) → Type 0
 TakesTurn files w command (Ok next) old new = (next ≡ (exec command files w).1) × (new ≡ with_bytes old (text_of files w command))
 TakesTurn files w command (Err Shelf) old new = (reads_file command ≡ true) × (new ≡ old)
-TakesTurn files w command (Err Sink) old new = TakesPrefix old (text_of files w command) new
+TakesTurn files w command (Err Sink) old new = TakesProperPrefix old (text_of files w command) new
 TakesTurn files w command (Err Memory) old new = new ≡ old
 
 -- all commands from the opening state
 abbrev pub Replays : Files → List Command → Result (Unit {0}) Stop → Option (List ℕ) → Option (List ℕ) → Type 0
 Replays files commands (Ok done) old new = new ≡ with_bytes old (concat (texts files booted commands))
 Replays files commands (Err Shelf) old new = StopsAtRead files commands old new
-Replays files commands (Err Sink) old new = TakesPrefix old (concat (texts files booted commands)) new
-Replays files commands (Err Memory) old new = TakesFront old (concat (texts files booted commands)) new
+Replays files commands (Err Sink) old new = TakesProperPrefix old (concat (texts files booted commands)) new
+Replays files commands (Err Memory) old new = TakesPrefix old (concat (texts files booted commands)) new

@@ -51,6 +51,7 @@ cause_word cause.Align = codes "Align"
 cause_word cause.Divide = codes "Divide"
 cause_word cause.Break = codes "Break"
 cause_word cause.BadCall = codes "BadCall"
+cause_word cause.Nest = codes "Nest"
 cause_word cause.Budget = codes "Budget"
 cause_word cause.Thunks = codes "Thunks"
 
@@ -60,6 +61,12 @@ outcome_word (Trapped cause) = codes "trap:" ++ cause_word cause
 
 abbrev pub kind_word : EventKind → List ℕ
 kind_word kind.Entry = codes "entry"
+kind_word kind.Supported = codes "supported"
+kind_word kind.Start = codes "start"
+kind_word kind.Stop = codes "stop"
+kind_word kind.Unload = codes "unload"
+kind_word kind.Connect = codes "connect"
+kind_word kind.Disconnect = codes "disconnect"
 
 abbrev pub refusal_word : PeRefusal → List ℕ
 refusal_word refusal.Short = codes "Short"
@@ -82,7 +89,7 @@ end_word BadPcir = codes "BadPcir"
 end_word LengthZero = codes "LengthZero"
 end_word PastEnd = codes "PastEnd"
 
--- Lines: words parted by one space each, and a line feed.
+-- Lines: words with one space between them, and a line feed.
 
 abbrev pub line : List (List ℕ) → List ℕ
 line words = join_with_byte 32 words ++ 10 ∷ []
@@ -115,7 +122,7 @@ dump_words (Proto guid interface owner) = codes "proto" ∷ hyphenated_text lowe
 dump_words (Entry agent controller attr count) = codes "open" ∷ decimal agent ∷ decimal controller ∷ (codes "0x" ++ hex attr) ∷ decimal count ∷ []
 
 abbrev pub dump_line : DumpLine → List ℕ
-dump_line said = line (dump_words said)
+dump_line entry = line (dump_words entry)
 
 -- the text of a command and its reply
 abbrev pub reply_text : Command → Reply → List ℕ

@@ -1,72 +1,68 @@
 -- The load of a file: one image, or the images of an option ROM, in order (UEFI 2.8, 14.4.2 'PCI Option
 -- ROMs').
-use Rattle.std.specs.Prelude.{ℕ, List, [], ◌∷◌, ◌++◌, Bool, true, false, ◌&&◌, ◌||◌, nat_eq, Option, Some, None, unwrap_or, if◌then◌else◌}
+use Rattle.std.specs.Prelude.{ℕ, List, [], ◌∷◌, ◌++◌, Bool, true, false, ◌&&◌, ◌||◌, nat_eq, Some, None, unwrap_or, if◌then◌else◌}
 use Rattle.std.specs.List.{starts_with}
 use Rattle.fw_types.specs.declared.status.Status.{Status}
+use Rattle.fw_types.specs.declared.status.TheConstants.Status.{SUCCESS, UNSUPPORTED}
+use Rattle.fw_types.specs.declared.image.TheConstants.{EFI_CODE, MACHINE_EBC}
 use Rattle.fw_types.specs.declared.image.ImageNote.{ImageNote}
 use Rattle.fw_types.specs.declared.image.ImageNote.TheVariants.{Loaded, Failed, Refused, Compressed, Skipped}
 use Rattle.option_rom.specs.RomGrammar.{Image}
-use Rattle.replay_shell.specs.declared.rom_load.Tried.{Tried as Told}
 use Rattle.world_model.specs.World.{State}
-use Rattle.replay_shell.specs.ImageLife.{Load, loaded, success, unsupported}
+use Rattle.replay_shell.specs.declared.image_life.ImageLoad.{ImageLoad}
+use Rattle.replay_shell.specs.declared.rom_load.RomTally.{RomTally}
+use Rattle.replay_shell.specs.ImageLife.{loaded}
 
 -- whether a file is an option ROM: it begins with the signature of its header
 abbrev pub is_rom : List ℕ → Bool
 is_rom file = starts_with nat_eq file (0x55 ∷ 0xAA ∷ [])
 
--- What came of the images so far: a note on each, whether one stayed loaded, the status of the last load
--- that was tried, and the world then.
-pub record Tried : Type 0 where
-  pub notes : List ImageNote
-  pub stayed : Bool
-  pub last : Option Status
-  pub world : State
-
--- what the code tells of images, with the world behind it
-abbrev pub came_of : Told → State → Tried
-came_of told w = record { notes = told.notes.items; stayed = told.stayed; last = told.last; world = w }
-
 -- before the first image
-abbrev pub none_tried : State → Tried
-none_tried w = record { notes = []; stayed = false; last = None; world = w }
+abbrev pub no_images : RomTally
+no_images = record { notes = []; any_loaded = false; last_status = None }
 
--- an image that is noted and not tried
-abbrev pub with_note : ImageNote → Tried → Tried
-with_note note tried = record tried { notes = tried.notes ++ note ∷ [] }
+-- an image that is noted and not loaded
+abbrev pub with_note : ImageNote → RomTally → RomTally
+with_note note tally = record tally { notes = tally.notes ++ note ∷ [] }
 
--- whether an image stayed loaded
-abbrev pub stays : ImageNote → Bool
-stays (Loaded handle) = true
-stays (Failed status) = false
-stays (Refused refusal) = false
-stays Compressed = false
-stays Skipped = false
+-- whether an image stays loaded
+abbrev pub is_loaded : ImageNote → Bool
+is_loaded (Loaded handle) = true
+is_loaded (Failed status) = false
+is_loaded (Refused refusal) = false
+is_loaded Compressed = false
+is_loaded Skipped = false
 
 -- an image whose load came to this
-abbrev pub with_load : Load → Tried → Tried
-with_load load tried = record {
-  notes = tried.notes ++ load.note ∷ [];
-  stayed = tried.stayed || stays load.note;
-  last = Some load.status;
-  world = load.world;
+abbrev pub with_load : ImageLoad → RomTally → RomTally
+with_load load tally = record {
+  notes = tally.notes ++ load.note ∷ [];
+  any_loaded = tally.any_loaded || is_loaded load.note;
+  last_status = Some load.status;
 }
 
--- whether an image has an EBC driver: code type 3, EFI, and the machine EBC
-abbrev pub is_driver : Image → Bool
-is_driver image = nat_eq image.code_type 3 && nat_eq image.machine 0x0EBC
+-- the load of a driver
+abbrev pub with_driver : List ℕ → RomTally × State → RomTally × State
+with_driver file (tally, w) =
+    let result : ImageLoad × State = loaded file w in
+    (with_load result.0 tally, result.1)
 
--- a driver that is not compressed is loaded; one that is, and any other image, is noted alone
-abbrev pub with_image : Image → Tried → Tried
-with_image image tried =
+-- whether an image has an EBC driver: the code type of EFI and the machine of EBC
+abbrev pub is_driver : Image → Bool
+is_driver image = nat_eq image.code_type EFI_CODE && nat_eq image.machine MACHINE_EBC
+
+-- a driver that is not compressed is loaded; one that is compressed, and any other image, is only noted
+abbrev pub with_image : Image → RomTally × State → RomTally × State
+with_image image (tally, w) =
     if is_driver image
-    then (if nat_eq image.compression 0 then with_load (loaded image.body tried.world) tried else with_note Compressed tried)
-    else with_note Skipped tried
+    then (if nat_eq image.compression 0 then with_driver image.body (tally, w) else (with_note Compressed tally, w))
+    else (with_note Skipped tally, w)
 
 -- images in order
-abbrev pub with_images : List Image → Tried → Tried
-with_images [] tried = tried
-with_images (image ∷ images) tried = with_images images (with_image image tried)
+abbrev pub with_images : List Image → RomTally × State → RomTally × State
+with_images [] so_far = so_far
+with_images (image ∷ images) so_far = with_images images (with_image image so_far)
 
--- the status: success where one stayed loaded, else that of the last that was tried
-abbrev pub rom_status : Tried → Status
-rom_status tried = if tried.stayed then success else unwrap_or tried.last unsupported
+-- the status: SUCCESS if an image stays loaded, else that of the last load
+abbrev pub rom_status : RomTally → Status
+rom_status tally = if tally.any_loaded then SUCCESS else unwrap_or tally.last_status UNSUPPORTED

@@ -2,7 +2,7 @@ ghost use Rattle.std.specs.Prelude.{◌≡◌, ◌≢◌, ◌≤◌, [], Some, I
 ghost use Rattle.fw_shelf.specs.Faults.{Rose};
 ghost use Rattle.fw_shelf.specs.Shelf.{Files, file_of};
 ghost use Rattle.pe_image.specs.ImageRules.{entry_of, refusal_of, size_of};
-ghost use Rattle.replay_shell.specs.Headline.{EndsWith, answer, code_listing, code_listing_to, gave_up, image_answer, listed_answer};
+ghost use Rattle.replay_shell.specs.Headline.{EndsWith, answer, code_listing, code_listing_to, gives_up, image_answer, image_file_answer};
 ghost use Rattle.replay_shell.specs.OtherTexts.{refused_image_line};
 
 use crate::replay::Stop;
@@ -14,7 +14,11 @@ use fw_types::{OutOfMemory, PeRefusal};
 use pe_image::{PeView, check, lay};
 use std::alloc::Global;
 
-/// The line that tells why an image is refused.
+/// The line that says why an image is refused.
+///
+/// # Errors
+///
+/// `OutOfMemory` if there is no memory for the line.
 fn refusal(alloc: Global, refusal: PeRefusal) -> Result<String, OutOfMemory>
     ensures { IfOk result (λ text. string_bytes text ≡ refused_image_line refusal) }
 {
@@ -22,20 +26,28 @@ fn refusal(alloc: Global, refusal: PeRefusal) -> Result<String, OutOfMemory>
     Ok(format!(in alloc; "image {kind}\n")?)
 }
 
-/// The listing of an image's code, laid at 0: from the entry to the end of the section that holds
-/// it, and nothing where no section does.
-fn listed(alloc: Global, view: &PeView<'_>) -> Result<String, OutOfMemory>
+/// The listing of an image's code, laid at 0: from the entry to the end of the section that has it,
+/// and nothing if no section has it.
+///
+/// # Errors
+///
+/// `OutOfMemory` if there is no memory for the laid image or the listing.
+fn listing_of(alloc: Global, view: &PeView<'_>) -> Result<String, OutOfMemory>
     ensures { IfOk result (λ text. string_bytes text ≡ code_listing view.now) }
 {
     match view.code_end() {
-        Some(end) => listed_to(alloc, view, end),
+        Some(end) => listing_to(alloc, view, end),
         None => Ok(String::new(alloc)),
     }
 }
 
 /// The listing of the code between the entry and a place in the laid image.
-fn listed_to(alloc: Global, view: &PeView<'_>, end: u32) -> Result<String, OutOfMemory>
-    requires behind { entry_of view.now ≤ end }
+///
+/// # Errors
+///
+/// `OutOfMemory` if there is no memory for the laid image or the listing.
+fn listing_to(alloc: Global, view: &PeView<'_>, end: u32) -> Result<String, OutOfMemory>
+    requires after { entry_of view.now ≤ end }
     requires inside { end ≤ size_of view.now }
     ensures { IfOk result (λ text. string_bytes text ≡ code_listing_to (Some end) view.now) }
 {
@@ -45,8 +57,13 @@ fn listed_to(alloc: Global, view: &PeView<'_>, end: u32) -> Result<String, OutOf
 }
 
 /// Answers the listing of an accepted image.
-fn tell<K: Sink>(alloc: Global, view: &PeView<'_>, sink: &mut K) -> Result<u8, Stop>
-    ensures told { (files : Files) → EndsWith (answer 0 (code_listing view.now)) files [] result
+///
+/// # Errors
+///
+/// - `Sink` only if the sink failed.
+/// - `Memory` if there is no memory for the text.
+fn say_listing<K: Sink>(alloc: Global, view: &PeView<'_>, sink: &mut K) -> Result<u8, Stop>
+    ensures taken { (files : Files) → EndsWith (answer 0 (code_listing view.now)) files [] result
         (K.taken sink.old) (K.taken sink.new) }
     ensures status { IfOk result (λ answer. answer ≡ 0) }
     ensures no_shelf { IfErr result (λ stop. stop ≢ Stop.Shelf) }
@@ -54,13 +71,18 @@ fn tell<K: Sink>(alloc: Global, view: &PeView<'_>, sink: &mut K) -> Result<u8, S
         → Rose (K.faults sink.old) (K.faults sink.new) }
     ensures becomes { K.becomes sink.old sink.new }
 {
-    let text = listed(alloc, view)?;
+    let text = listing_of(alloc, view)?;
     say(sink, 0, text.as_bytes())
 }
 
 /// Answers that an image is refused.
-fn refuse<K: Sink>(alloc: Global, kind: PeRefusal, sink: &mut K) -> Result<u8, Stop>
-    ensures told { (files : Files) → EndsWith (answer 8 (refused_image_line kind)) files [] result
+///
+/// # Errors
+///
+/// - `Sink` only if the sink failed.
+/// - `Memory` if there is no memory for the text.
+fn say_refusal<K: Sink>(alloc: Global, kind: PeRefusal, sink: &mut K) -> Result<u8, Stop>
+    ensures taken { (files : Files) → EndsWith (answer 8 (refused_image_line kind)) files [] result
         (K.taken sink.old) (K.taken sink.new) }
     ensures status { IfOk result (λ answer. answer ≡ 8) }
     ensures no_shelf { IfErr result (λ stop. stop ≢ Stop.Shelf) }
@@ -72,35 +94,47 @@ fn refuse<K: Sink>(alloc: Global, kind: PeRefusal, sink: &mut K) -> Result<u8, S
     say(sink, 8, text.as_bytes())
 }
 
-/// Lists the image that bytes are, or tells why they are refused.
+/// Lists the image that bytes are, or says why they are refused.
+///
+/// # Errors
+///
+/// - `Sink` only if the sink failed.
+/// - `Memory` if there is no memory for the text.
 fn list_bytes<K: Sink>(alloc: Global, file: &[u8], sink: &mut K) -> Result<u8, Stop>
-    ensures told { (files : Files) → EndsWith (image_answer (refusal_of file.now) file.now) files []
-        result (K.taken sink.old) (K.taken sink.new) }
+    ensures taken { (files : Files)
+        → EndsWith (image_answer (refusal_of file.now) file.now) files [] result
+        (K.taken sink.old) (K.taken sink.new) }
     ensures status { IfOk result
-        (λ answer. (gave_up answer ≡ false) × (nat_eq answer 1 ≡ false)) }
+        (λ answer. (gives_up answer ≡ false) × (nat_eq answer 1 ≡ false)) }
     ensures no_shelf { IfErr result (λ stop. stop ≢ Stop.Shelf) }
     ensures sink_failed { IsErrOf result Stop.Sink
         → Rose (K.faults sink.old) (K.faults sink.new) }
     ensures becomes { K.becomes sink.old sink.new }
 {
     match check(file) {
-        Ok(view) => tell(alloc, &view, sink),
-        Err(kind) => refuse(alloc, kind, sink),
+        Ok(view) => say_listing(alloc, &view, sink),
+        Err(kind) => say_refusal(alloc, kind, sink),
     }
 }
 
 /// Reads the image under a name, once, and lists its code.
+///
+/// # Errors
+///
+/// - `Shelf` only if the shelf failed.
+/// - `Sink` only if the sink failed.
+/// - `Memory` if there is no memory.
 pub fn list_image<F: Shelf, K: Sink>(
     alloc: Global,
     name: &str,
     shelf: &mut F,
     sink: &mut K,
 ) -> Result<u8, Stop>
-    ensures told { (files : Files) → F.held shelf.old ≡ Some files
-        → EndsWith (listed_answer (file_of files name.now)) files []
+    ensures taken { (files : Files) → F.files shelf.old ≡ Some files
+        → EndsWith (image_file_answer (file_of files name.now)) files []
         result (K.taken sink.old) (K.taken sink.new) }
     ensures status { IfOk result
-        (λ answer. (gave_up answer ≡ false) × (nat_eq answer 1 ≡ false)) }
+        (λ answer. (gives_up answer ≡ false) × (nat_eq answer 1 ≡ false)) }
     ensures shelf_failed { IsErrOf result Stop.Shelf
         → Rose (F.faults shelf.old) (F.faults shelf.new) }
     ensures sink_failed { IsErrOf result Stop.Sink

@@ -4,8 +4,8 @@ ghost use Rattle.world_model.specs.Images.{entry_of};
 ghost use Rattle.world_model.specs.Marks.{depth};
 ghost use Rattle.driver_model.specs.DriverCall.{entry_called, kept_or_undone};
 ghost use Rattle.driver_model.specs.Spending.{Spends};
-ghost use Rattle.replay_shell.specs.Machine.{IsAtRest, IsOnTrial, kept_soft};
-ghost use Rattle.replay_shell.specs.ImageLife.{came_of, entered, failure_of, fault_note, fault_status, loaded, refusal_status};
+ghost use Rattle.replay_shell.specs.Machine.{IsAtRest, IsOnTrial, marked_soft};
+ghost use Rattle.replay_shell.specs.ImageLife.{entered, failed, failure_of, loaded, refusal_status, unplaced};
 
 use bind_engine::call_entry;
 use fw_types::{Handle, ImageNote, OutOfMemory, Outcome, PeRefusal, Status};
@@ -17,20 +17,22 @@ const NO_DEVICE: u64 = 0;
 
 /// What came of an image, and the status of its load.
 #[derive(Clone, Copy, Debug)]
-pub struct Loading {
+pub struct ImageLoad {
     pub note: ImageNote,
     pub status: Status,
 }
 
-fn failed(status: Status) -> Loading
-    ensures { result ≡ record { note = ImageNote.Failed status; status = status } }
+/// A load that fails with a status.
+fn failed(status: Status) -> ImageLoad
+    ensures { result ≡ failed status }
 {
-    Loading {
+    ImageLoad {
         note: ImageNote::Failed(status),
         status,
     }
 }
 
+/// The status of the load of a refused image.
 fn status_of(refusal: PeRefusal) -> Status
     ensures { result ≡ refusal_status refusal }
 {
@@ -40,7 +42,7 @@ fn status_of(refusal: PeRefusal) -> Status
     }
 }
 
-/// The status of a load whose entry ended so, where it failed.
+/// The status of a load whose entry ended so, if it failed.
 fn failure(outcome: Outcome) -> Option<Status>
     ensures { result ≡ failure_of outcome }
 {
@@ -51,25 +53,30 @@ fn failure(outcome: Outcome) -> Option<Status>
     }
 }
 
-/// Keeps an image whose entry ended so, or puts the soft part back that the mark keeps where it failed.
+/// Keeps an image if its entry ended with success; otherwise puts the soft part back as it was at
+/// the mark.
+///
+/// # Errors
+///
+/// `OutOfMemory` if there is no memory for what is put back.
 fn settle(
     world: &mut World,
     mark: Mark,
     image: Handle,
     outcome: Outcome,
-) -> Result<Loading, OutOfMemory>
+) -> Result<ImageLoad, OutOfMemory>
     requires trial { IsOnTrial world.old }
     requires newest { mark ≡ depth world.old }
-    ensures done { (made : Soft) → IfOk result (λ loading.
-        entered image (kept_soft world.old) (kept_or_undone made (outcome, world.old.now))
-        ≡ came_of loading world.new.now) }
+    ensures done { (made : Soft) → IfOk result (λ load.
+        entered image (marked_soft world.old) (kept_or_undone made (outcome, world.old.now))
+        ≡ (load, world.new.now)) }
     ensures hard { OnOk result (world.new.now.hard ≡ world.old.now.hard) }
     ensures rest { OnOk result (IsAtRest world.new) }
 {
     match failure(outcome) {
         None => {
             world.commit(mark);
-            Ok(Loading {
+            Ok(ImageLoad {
                 note: ImageNote::Loaded(image),
                 status: Status::SUCCESS,
             })
@@ -92,15 +99,20 @@ fn entry_point(world: &World, image: Handle) -> u64
     }
 }
 
-/// Calls the entry of an image that was placed since the mark; where that fails the soft part is as at
-/// the mark.
-fn enter(world: &mut World, mark: Mark, image: Handle) -> Result<Loading, OutOfMemory>
+/// Calls the entry point of an image that was placed after the mark. If that fails the soft part is
+/// as it was at the mark.
+///
+/// # Errors
+///
+/// `OutOfMemory` if there is no memory for the run or for what is put back.
+fn enter(world: &mut World, mark: Mark, image: Handle) -> Result<ImageLoad, OutOfMemory>
     requires trial { IsOnTrial world.old }
     requires newest { mark ≡ depth world.old }
     requires placed { is_some (entry_of image world.old.now.soft) ≡ true }
-    ensures done { (entry : ℕ) → entry_of image world.old.now.soft ≡ Some entry → IfOk result (λ loading.
-        entered image (kept_soft world.old) (entry_called image entry world.old.now)
-        ≡ came_of loading world.new.now) }
+    ensures done { (entry : ℕ) → entry_of image world.old.now.soft ≡ Some entry
+        → IfOk result (λ load.
+        entered image (marked_soft world.old) (entry_called image entry world.old.now)
+        ≡ (load, world.new.now)) }
     ensures spends { OnOk result (Spends world.old.now world.new.now) }
     ensures rest { OnOk result (IsAtRest world.new) }
 {
@@ -109,14 +121,17 @@ fn enter(world: &mut World, mark: Mark, image: Handle) -> Result<Loading, OutOfM
     settle(world, mark, image, outcome)
 }
 
-/// What a load comes to whose image was not placed.
-fn not_placed(fault: PlaceFault) -> Result<Loading, OutOfMemory>
-    ensures told { IfOk result (λ loading.
-        loading ≡ record { note = fault_note fault; status = fault_status fault }) }
+/// The load of an image that was not placed.
+///
+/// # Errors
+///
+/// `OutOfMemory` if that is why it was not placed.
+fn not_placed(fault: PlaceFault) -> Result<ImageLoad, OutOfMemory>
+    ensures load { IfOk result (λ load. load ≡ unplaced fault) }
     ensures memory { OnOk result (fault ≢ PlaceFault.OutOfMemory) }
 {
     match fault {
-        PlaceFault::Refused(refusal) => Ok(Loading {
+        PlaceFault::Refused(refusal) => Ok(ImageLoad {
             note: ImageNote::Refused(refusal),
             status: status_of(refusal),
         }),
@@ -126,16 +141,16 @@ fn not_placed(fault: PlaceFault) -> Result<Loading, OutOfMemory>
     }
 }
 
-/// Loads the image that the bytes of a file are (UEFI 2.8, 7.4: LoadImage and StartImage): places it,
-/// and calls its entry point. Where that fails the soft part is as before.
+/// Loads the image that the bytes of a file are (UEFI 2.8, 7.4: LoadImage and StartImage): places
+/// it, and calls its entry point. If the entry point fails the soft part is as before.
 ///
 /// # Errors
 ///
-/// `OutOfMemory` where there is no memory.
-pub fn load_image(world: &mut World, file: &[u8]) -> Result<Loading, OutOfMemory>
+/// `OutOfMemory` if there is no memory for the image or for what its entry point does.
+pub fn load_image(world: &mut World, file: &[u8]) -> Result<ImageLoad, OutOfMemory>
     requires { IsAtRest world.old }
     ensures done { IfOk result
-        (λ loading. loaded file.now world.old.now ≡ came_of loading world.new.now) }
+        (λ load. loaded file.now world.old.now ≡ (load, world.new.now)) }
     ensures spends { OnOk result (Spends world.old.now world.new.now) }
     ensures rest { OnOk result (IsAtRest world.new) }
 {
@@ -143,9 +158,9 @@ pub fn load_image(world: &mut World, file: &[u8]) -> Result<Loading, OutOfMemory
     match place(world, file, NO_DEVICE) {
         Ok(image) => enter(world, mark, image),
         Err(fault) => {
-            let loading = not_placed(fault)?;
+            let load = not_placed(fault)?;
             world.commit(mark);
-            Ok(loading)
+            Ok(load)
         }
     }
 }

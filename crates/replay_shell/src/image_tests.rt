@@ -1,4 +1,4 @@
-use crate::tests::{image, put, run_words};
+use crate::tests::{SMALLEST, image, put};
 use crate::top::top;
 use ebc_asm::assemble;
 use fw_shelf::{MemShelf, MemSink};
@@ -6,9 +6,6 @@ use fw_types::{OutOfMemory, Rows};
 use option_rom::{RomPart, write};
 use std::alloc::{AllocError, Global};
 use std::test::Fail;
-
-/// The smallest driver: MOVIqw R7, 0 and RET.
-const SMALLEST: &[u8] = b"\x77\x37\x00\x00\x04\x00";
 
 /// A driver whose entry traps at once: BREAK 0.
 const BROKEN: &[u8] = b"\x00\x00";
@@ -21,7 +18,7 @@ const STALL: &[u8] =
 const STALL_LISTING: &str =
     "00000200 MOVqw R4, @R0[0x0018]\n00000204 MOVqw R4, @R4[0x0060]\n00000208 PUSHn R5\n0000020A CALL32EXa @R4[0x000000F8]\n00000210 POPn R5\n00000212 RET\n";
 
-/// What `top` answers and writes for two words, where the file `f` has these bytes.
+/// What `top` answers and writes for two words, if the file `f` has these bytes.
 fn answered(
     alloc: Global,
     verb: &str,
@@ -44,12 +41,12 @@ fn answered(
     Ok((top(alloc, &words, &mut shelf, &mut sink), sink))
 }
 
-/// What is written where a script loads a file.
+/// What is written if a script loads a file.
 fn loaded(alloc: Global, file: Vec<u8>) -> Result<(u8, MemSink), OutOfMemory> {
     answered(alloc, "run", "s", file, &[], &[])
 }
 
-/// What is written where an image is listed.
+/// What is written if an image is listed.
 fn listed(alloc: Global, file: Vec<u8>) -> Result<(u8, MemSink), OutOfMemory> {
     answered(alloc, "disasm", "f", file, &[], &[])
 }
@@ -124,12 +121,12 @@ fn images_are_refused_by_kind(rt: HostRuntime) -> Result<(), Fail> {
         // A runtime driver.
         (&[(0x9C, &[12])], accepted),
     ];
-    for (changes, said) in cases {
+    for (changes, line) in cases {
         let file = changed(rt.alloc(), changes)?;
         let (status, sink) = loaded(rt.alloc(), file)?;
-        let report = format!(in rt.alloc(); "> load f\n{said}")?;
-        assert_eq!(rt; status, 0, "at {said}");
-        assert_eq!(rt; sink.taken(), report.as_bytes(), "at {said}");
+        let report = format!(in rt.alloc(); "> load f\n{line}")?;
+        assert_eq!(rt; status, 0, "at {line}");
+        assert_eq!(rt; sink.taken(), report.as_bytes(), "at {line}");
     }
     Ok(())
 }
@@ -178,8 +175,8 @@ fn a_listing_ends_for_other_causes(rt: HostRuntime) -> Result<(), Fail> {
     Ok(())
 }
 
-/// An image of an option ROM that is no plain driver: its header, with the signature of an EFI image
-/// where its code type is 3, and the PCI data structure at 28.
+/// An image of an option ROM that is no plain driver: its header, with the signature of an EFI
+/// image if its code type is 3, and the PCI data structure at 28.
 fn other_image(alloc: Global, code_type: u8, compression: u8) -> Result<Vec<u8>, AllocError> {
     let mut bytes: Vec<u8> = vec![in alloc; 0; 512]?;
     put(&mut bytes, 0, &[0x55, 0xAA, 1]);
@@ -230,8 +227,12 @@ fn option_roms_are_loaded_image_by_image(rt: HostRuntime) -> Result<(), Fail> {
     let mut compressed_last = rom_of(alloc, &[bad])?;
     put(&mut compressed_last, 49, &[0]);
     compressed_last.extend_from_slice(other_image(alloc, 3, 1)?.as_slice())?;
+    let mut without_pcir = other_image(alloc, 0, 0)?;
+    put(&mut without_pcir, 28, b"PCIX");
+    let mut without_length = other_image(alloc, 0, 0)?;
+    put(&mut without_length, 44, &[0]);
     // An option ROM, and what the report says of it.
-    let cases: [(Vec<u8>, &str); 8] = [
+    let cases: [(Vec<u8>, &str); 10] = [
         (
             three_images(alloc)?,
             "1 0 entry 3 0 0 SUCCESS\nimage 1 skipped\nimage 2 compressed\nimage 3 handle 3\nrom Done\n= SUCCESS 82\n",
@@ -245,6 +246,8 @@ fn option_roms_are_loaded_image_by_image(rt: HostRuntime) -> Result<(), Fail> {
             Vec::from_slice(alloc, b"\x55\xAA")?,
             "rom BadSignature\n= UNSUPPORTED 0\n",
         ),
+        (without_pcir, "rom BadPcir\n= UNSUPPORTED 0\n"),
+        (without_length, "rom LengthZero\n= UNSUPPORTED 0\n"),
         // Every image fails: the status is that of the last that was tried.
         (
             rom_of(alloc, &[bad, b"no image"])?,
@@ -263,22 +266,48 @@ fn option_roms_are_loaded_image_by_image(rt: HostRuntime) -> Result<(), Fail> {
             rom_of(alloc, &[good, bad, good])?,
             "1 0 entry 3 0 0 SUCCESS\n2 0 entry 4 0 0 trap:Break\n3 0 entry 4 0 0 SUCCESS\nimage 1 handle 3\nimage 2 ABORTED\nimage 3 handle 4\nrom Done\n= SUCCESS 245\n",
         ),
-        // One stayed loaded, whatever came behind it.
+        // One stays loaded, whatever comes after it.
         (
             rom_of(alloc, &[good, bad])?,
             "1 0 entry 3 0 0 SUCCESS\n2 0 entry 4 0 0 trap:Break\nimage 1 handle 3\nimage 2 ABORTED\nrom Done\n= SUCCESS 163\n",
         ),
     ];
-    for (rom, said) in cases {
+    for (rom, lines) in cases {
         let (status, sink) = loaded(alloc, rom)?;
-        let report = format!(in alloc; "> load f\n{said}")?;
-        assert_eq!(rt; status, 0, "at {said}");
-        assert_eq!(rt; sink.taken(), report.as_bytes(), "at {said}");
+        let report = format!(in alloc; "> load f\n{lines}")?;
+        assert_eq!(rt; status, 0, "at {lines}");
+        assert_eq!(rt; sink.taken(), report.as_bytes(), "at {lines}");
     }
     Ok(())
 }
 
-/// Adds 10, 9, .. and 1, and answers DEVICE_ERROR where the sum is not 55. R4 is 0 as it begins.
+#[test]
+fn a_command_spends_all_of_its_units(rt: HostRuntime) -> Result<(), Fail> {
+    let alloc = rt.alloc();
+    // A jump to itself. Laying costs 16, and a call ends at 1,048,576 units. The fourth call ends
+    // when the command has none left of its 4,194,304, and then the fifth image is not laid.
+    let endless = image(alloc, b"\x02\xFF")?;
+    let body = endless.as_slice();
+    let rom = rom_of(alloc, &[body, body, body, body, body])?;
+    let (status, sink) = loaded(alloc, rom)?;
+    let report = "> load f\n\
+        1 0 entry 3 0 0 trap:Budget\n\
+        2 0 entry 3 0 0 trap:Budget\n\
+        3 0 entry 3 0 0 trap:Budget\n\
+        4 0 entry 3 0 0 trap:Budget\n\
+        image 1 ABORTED\n\
+        image 2 ABORTED\n\
+        image 3 ABORTED\n\
+        image 4 ABORTED\n\
+        image 5 ABORTED\n\
+        rom Done\n\
+        = ABORTED 4194304\n";
+    assert_eq!(rt; status, 0);
+    assert_eq!(rt; sink.taken(), report.as_bytes());
+    Ok(())
+}
+
+/// Adds 10, 9, .. and 1, and answers DEVICE_ERROR if the sum is not 55. R4 is 0 as it begins.
 const ADDER: &str = "\
     MOVIqw R5, 10\n\
     MOVIqw R6, 0\n\
@@ -298,9 +327,9 @@ const ADDER: &str = "\
 #[test]
 fn a_driver_with_a_loop_is_assembled_and_run(rt: HostRuntime) -> Result<(), Fail> {
     let alloc = rt.alloc();
-    // The sum that is wanted, which stands behind 22 bytes of the code, and the report. Of units,
-    // laying costs 16 and the call 64; then two instructions stand before the loop, which has 4 and is
-    // run 10 times, and 4 behind it.
+    // The sum that is wanted, which comes after 22 bytes of the code, and the report. Of the units,
+    // laying costs 16 and the call 64; then two instructions come before the loop, which has 4 and
+    // is run 10 times, and 4 after it.
     let cases: [(u8, &str); 2] = [
         (
             55,

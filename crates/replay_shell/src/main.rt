@@ -3,15 +3,20 @@
 //!
 //! The way of a command: `respond` reads the words, `read` turns the script's lines into commands,
 //! `replay` hands the machine from command to command, `machine` does one command (`image_life`
-//! loads an image, whose entry point `bind_engine` calls), and `report` writes its text. `top` is all
-//! of it over any shelf and any sink.
+//! loads an image, whose entry point `bind_engine` calls), and `report` writes its text. `top` is
+//! all of this over any shelf and any sink.
 #![tactic(auto)]
+
+ghost use Rattle.std.specs.Prelude.{◌≡◌, ◌≢◌, IfOk, drop};
+ghost use Rattle.std.specs.Vec.Iter.{into_iter_items};
 
 mod disasm;
 mod image_life;
 #[cfg(test)]
 mod image_tests;
 mod machine;
+#[cfg(test)]
+mod outside_tests;
 #[cfg(test)]
 mod protocol_tests;
 mod read;
@@ -27,17 +32,18 @@ mod service_tests;
 #[cfg(test)]
 mod tests;
 mod top;
-mod words;
 
 use fw_shelf::{DirShelf, OutSink};
-use std::alloc::AllocError;
+use std::alloc::{AllocError, Global};
+use std::env;
+use std::env::Args;
+use std::io::ErrorKind;
 use std::process::ExitCode;
-use std::{env, io};
 
-/// The status where the runtime finds no memory.
+/// The status if the program is out of memory before it begins.
 const NO_MEMORY: u8 = 5;
 
-/// The status where the runtime does not give the words or its copy for another cause.
+/// The status if the runtime does not give the words for any other cause.
 const NO_RUNTIME: u8 = 9;
 
 fn main(rt: HostRuntime) -> ExitCode {
@@ -50,26 +56,46 @@ fn status(rt: &HostRuntime) -> u8 {
     let alloc = rt.alloc();
     let args = match env::args(rt) {
         Ok(args) => args,
-        Err(error) if error.kind() == io::ErrorKind::OutOfMemory => return NO_MEMORY,
-        Err(_) => return NO_RUNTIME,
+        Err(error) => return status_without_words(error.kind()),
     };
-    let mut words = Vec::new(alloc);
-    for word in args.skip(1) {
-        if words.push(word).is_err() {
-            return NO_MEMORY;
-        }
-    }
-    match runtimes(rt) {
-        Ok((for_files, for_output)) => {
-            let mut shelf = DirShelf::new(for_files);
-            let mut sink = OutSink::new(for_output);
-            top::top(alloc, &words, &mut shelf, &mut sink)
-        }
-        Err(_) => NO_MEMORY,
+    let Ok(words) = words_after_name(alloc, args) else {
+        return NO_MEMORY;
+    };
+    let Ok((for_files, for_output)) = runtimes(rt) else {
+        return NO_MEMORY;
+    };
+    let mut shelf = DirShelf::new(for_files);
+    let mut sink = OutSink::new(for_output);
+    top::top(alloc, &words, &mut shelf, &mut sink)
+}
+
+/// The status if the runtime does not give the words, for an error of this kind.
+fn status_without_words(kind: ErrorKind) -> u8
+    ensures memory { kind ≡ ErrorKind.OutOfMemory → result ≡ 5 }
+    ensures runtime { kind ≢ ErrorKind.OutOfMemory → result ≡ 9 }
+{
+    match kind {
+        ErrorKind::OutOfMemory => NO_MEMORY,
+        _ => NO_RUNTIME,
     }
 }
 
-/// The runtime for the files, and for the output.
+/// All words after the first one, which is the program's name.
+///
+/// # Errors
+///
+/// `AllocError` if there is no memory for the list of them.
+fn words_after_name(alloc: Global, args: Args) -> Result<Vec<String>, AllocError>
+    ensures { IfOk result (λ words. words.items ≡ drop 1 (into_iter_items args)) }
+{
+    args.skip(1).collect(alloc)
+}
+
+/// The runtime for the files, and the one for the output.
+///
+/// # Errors
+///
+/// `AllocError` if there is no memory for the copies.
 fn runtimes(rt: &HostRuntime) -> Result<(HostRuntime, HostRuntime), AllocError> {
     Ok((rt.clone()?, rt.clone()?))
 }

@@ -3,8 +3,8 @@ use crate::tests::replayed;
 use std::process::Abort;
 use std::test::Fail;
 
-/// Installs PCI I/O with the interface 5 on a new handle. R2 then points to the GUID, and R1 to the 8
-/// bytes on the stack in which the handle's number is stored.
+/// Installs PCI I/O with the interface 5 on a new handle. R2 then points to the GUID, and R1 to the
+/// 8 bytes on the stack in which the handle's number is stored.
 const INSTALL: &str = "\
     MOVRELd R2, =name\n\
     PUSHn R6\n\
@@ -34,7 +34,8 @@ const UNINSTALL: &str = "\
     PUSHn @R1\n\
     CALL32EXa @R4[0x00000090]\n";
 
-/// Calls LocateHandle by the protocol, with room for one handle in the place of the number, which is 0 before.
+/// Calls LocateHandle by the protocol, with room for one handle in the place of the number, which
+/// is 0 before.
 const LOCATE: &str = "\
     MOVqw @R1, R6\n\
     MOVIqw R5, 8\n\
@@ -48,8 +49,8 @@ const LOCATE: &str = "\
     PUSHn R5\n\
     CALL32EXa @R4[0x000000B0]\n";
 
-/// Calls OpenProtocol for the handle, of which R3 then has the number: exclusively, for the image itself. The
-/// interface is stored in the place of the number.
+/// Calls OpenProtocol for the handle, of which R3 then has the number: exclusively, for the image
+/// itself. The interface is stored in the place of the number.
 const OPEN_ALONE: &str = "\
     MOVIqw R5, 32\n\
     PUSHn R5\n\
@@ -76,8 +77,8 @@ const CLOSE: &str = "\
 /// Calls CloseProtocol again, with what lies on the stack.
 const CLOSE_AGAIN: &str = "CALL32EXa @R4[0x00000120]\n";
 
-/// Calls OpenProtocolInformation for what `OPEN_ALONE` has opened, and answers the attributes and the count
-/// of the first record.
+/// Calls OpenProtocolInformation for what `OPEN_ALONE` has opened, and answers the attributes and
+/// the count of the first record.
 const INFORM: &str = "\
     PUSHn R6\n\
     MOVqw R5, R0\n\
@@ -126,8 +127,8 @@ const LOCATE_PROTOCOL: &str = "\
 /// Sets the place of the handle's number to 0.
 const FORGET: &str = "MOVqw @R1, R6\n";
 
-/// Calls InstallMultipleProtocolInterfaces with the protocol alone, for the handle whose number is stored, or
-/// a new one.
+/// Calls InstallMultipleProtocolInterfaces with the protocol alone, for the handle whose number is
+/// stored, or a new one.
 const INSTALL_LIST: &str = "\
     PUSHn R6\n\
     PUSHn R5\n\
@@ -141,11 +142,11 @@ const NAME: &str = "\
     .byte 0x00, 0xb2, 0xf5, 0x4c, 0xb8, 0x68, 0xa5, 0x4c\n\
     .byte 0x9e, 0xec, 0xb2, 0x3e, 0x3f, 0x50, 0x02, 0x9a\n";
 
-// Of the units in these reports laying costs 16 and a call 64; the others are one for each instruction, 8 for
-// each service on one protocol, and 16 for those that go through a list.
+// Of the units in these reports laying costs 16 and a call 64; the others are one for each
+// instruction, 8 for each service on one protocol, and 16 for those that go through a list.
 
 /// What the report says of the load of a driver that installs, and then does these parts.
-fn reports(rt: &(impl AllocGlobal + Abort), parts: &[&str], said: &str) -> Result<(), Fail> {
+fn reports(rt: &(impl AllocGlobal + Abort), parts: &[&str], lines: &str) -> Result<(), Fail> {
     let alloc = rt.alloc();
     let mut all = Vec::new(alloc);
     all.push(FIND_SERVICES)?;
@@ -153,17 +154,17 @@ fn reports(rt: &(impl AllocGlobal + Abort), parts: &[&str], said: &str) -> Resul
     all.extend_from_slice(parts)?;
     let code = assembled(alloc, all.as_slice())?;
     let (status, sink) = replayed(alloc, b"load a.efi\n", code.as_slice(), b"\x04\x00")?;
-    let report = format!(in alloc; "> load a.efi\n{said}")?;
-    assert_eq!(rt; status, 0, "at {said}");
-    assert_eq!(rt; sink.taken(), report.as_bytes(), "at {said}");
+    let report = format!(in alloc; "> load a.efi\n{lines}")?;
+    assert_eq!(rt; status, 0, "at {lines}");
+    assert_eq!(rt; sink.taken(), report.as_bytes(), "at {lines}");
     Ok(())
 }
 
 #[test]
 fn protocols_are_installed_opened_and_uninstalled(rt: HostRuntime) -> Result<(), Fail> {
-    // What is done behind the installation, and what the report says of the load.
+    // What is done after the installation, and what the report says of the load.
     let cases: [(&[&str], &str); 5] = [
-        // The new handle is the one behind the image's.
+        // The new handle is the one after the image's.
         (
             &[ANSWER, LEAVE, NAME],
             "1 0 entry 3 0 0 0x0000000000000004\nimage 1 handle 3\n= SUCCESS 102\n",
@@ -187,8 +188,8 @@ fn protocols_are_installed_opened_and_uninstalled(rt: HostRuntime) -> Result<(),
             "1 0 entry 3 0 0 INVALID_PARAMETER\nimage 1 INVALID_PARAMETER\n= INVALID_PARAMETER 126\n",
         ),
     ];
-    for (parts, said) in cases {
-        reports(&rt, parts, said)?;
+    for (parts, lines) in cases {
+        reports(&rt, parts, lines)?;
     }
     Ok(())
 }
@@ -213,8 +214,8 @@ fn protocols_are_found(rt: HostRuntime) -> Result<(), Fail> {
             "1 0 entry 3 0 0 0x4ca568b84cf5b200\nimage 1 handle 3\n= SUCCESS 127\n",
         ),
     ];
-    for (parts, said) in cases {
-        reports(&rt, parts, said)?;
+    for (parts, lines) in cases {
+        reports(&rt, parts, lines)?;
     }
     Ok(())
 }
@@ -244,8 +245,8 @@ fn protocols_are_opened_and_closed(rt: HostRuntime) -> Result<(), Fail> {
             "1 0 entry 3 0 0 NOT_FOUND\nimage 1 NOT_FOUND\n= NOT_FOUND 141\n",
         ),
     ];
-    for (parts, said) in cases {
-        reports(&rt, parts, said)?;
+    for (parts, lines) in cases {
+        reports(&rt, parts, lines)?;
     }
     Ok(())
 }
@@ -263,8 +264,8 @@ fn protocols_are_installed_in_a_list(rt: HostRuntime) -> Result<(), Fail> {
             "1 0 entry 3 0 0 INVALID_PARAMETER\nimage 1 INVALID_PARAMETER\n= INVALID_PARAMETER 122\n",
         ),
     ];
-    for (parts, said) in cases {
-        reports(&rt, parts, said)?;
+    for (parts, lines) in cases {
+        reports(&rt, parts, lines)?;
     }
     Ok(())
 }

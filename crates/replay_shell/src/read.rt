@@ -1,57 +1,41 @@
-ghost use Rattle.std.specs.Prelude.{◌≡◌, ◌++◌, IfOk, OnOk, bytes_eq, true};
+ghost use Rattle.std.specs.Prelude.{◌≡◌, ◌++◌, IfOk, OnOk, true};
 ghost use Rattle.std.specs.Option.{option_to_list};
 ghost use Rattle.std.specs.List.{list_all};
-ghost use Rattle.replay_shell.specs.ScriptGrammar.{Gives, are_text, first_kind, is_load, is_not_built, is_text_byte, is_too_long, line_of, said, script_of, tests_of};
+ghost use Rattle.text_lines.specs.Words.{is_text_byte};
+ghost use Rattle.replay_shell.specs.ScriptGrammar.{Gives, are_text, command_of, first_kind, is_load, is_not_built, is_too_long, line_of, line_words, script_of, tests_of};
 
-use crate::script::{Script, ScriptFault, ScriptKind};
-use crate::words::{Words, first_line, words_of};
+use crate::script::{
+    MOST_LINE_BYTES, MOST_LINES, MOST_NAME_BYTES, Script, ScriptFault, ScriptKind,
+};
 use fw_types::{Command, OutOfMemory, Rows, Text};
 use std::alloc::Global;
 use std::str;
+use text_lines::{Words, before_byte, first_line, is, is_text, words_of};
 
-/// The longest line, in bytes.
-const LONGEST_LINE: usize = 1024;
-
-/// The most lines of a script.
-const MOST_LINES: u32 = 100_000;
-
-/// The longest name of a file, in bytes.
-const LONGEST_NAME: usize = 255;
-
-fn is(word: &[u8], text: &str) -> bool
-    ensures { result ≡ bytes_eq word.now text.now }
-{
-    word == text.as_bytes()
-}
-
+/// Whether words begin with `load`.
 fn begins_load(words: &Words<'_>) -> bool
     ensures { result ≡ is_load words.now }
 {
     is(words.at(0), "load")
 }
 
+/// Whether a line, its number or the name in it is too long.
 fn too_long(number: u32, line: &[u8], words: &Words<'_>) -> bool
     ensures { result ≡ is_too_long number line.now words.now }
 {
-    line.len() > LONGEST_LINE
+    line.len() > MOST_LINE_BYTES
         || number > MOST_LINES
-        || (begins_load(words) && words.at(1).len() > LONGEST_NAME)
+        || (begins_load(words) && words.at(1).len() > MOST_NAME_BYTES)
 }
 
-/// Whether each byte is a tab or a printable ASCII character.
-fn is_text(line: &[u8]) -> bool
-    ensures { result ≡ list_all is_text_byte line.now }
-{
-    line.iter().all(|b| *b == 9 || (32 <= *b && *b <= 126))
-}
-
+/// Whether there are words that are not a load of one name.
 fn not_built(words: &Words<'_>) -> bool
     ensures { result ≡ is_not_built words.now }
 {
     words.len() != 0 && !(begins_load(words) && words.len() == 2)
 }
 
-/// The first kind for which a line is refused.
+/// The first kind for which a line is refused, if there is one.
 fn refusal(number: u32, line: &[u8], words: &Words<'_>) -> Option<ScriptKind>
     ensures { result ≡ first_kind (tests_of number line.now words.now) }
 {
@@ -67,7 +51,11 @@ fn refusal(number: u32, line: &[u8], words: &Words<'_>) -> Option<ScriptKind>
     None
 }
 
-/// The text of a word that a text line has.
+/// The text of a word of text bytes.
+///
+/// # Errors
+///
+/// `OutOfMemory` if there is no memory for the text.
 fn text(alloc: Global, word: &[u8]) -> Result<Text, OutOfMemory>
     requires { list_all is_text_byte word.now ≡ true }
     ensures { IfOk result (λ text. text ≡ word.now) }
@@ -78,10 +66,14 @@ fn text(alloc: Global, word: &[u8]) -> Result<Text, OutOfMemory>
     }
 }
 
-/// The command that words say, where there are words.
+/// The command of a line's words, if there are words.
+///
+/// # Errors
+///
+/// `OutOfMemory` if there is no memory for the command.
 fn command(alloc: Global, words: &Words<'_>) -> Result<Option<Command>, OutOfMemory>
     requires { are_text words.now ≡ true }
-    ensures { IfOk result (λ command. command ≡ said words.now) }
+    ensures { IfOk result (λ command. command ≡ command_of words.now) }
 {
     if words.len() == 0 {
         return Ok(None);
@@ -90,18 +82,39 @@ fn command(alloc: Global, words: &Words<'_>) -> Result<Option<Command>, OutOfMem
     Ok(Some(Command::Load { name }))
 }
 
-/// The command that a line says, if it says one.
+/// The words of a line, without those of its comment.
+///
+/// # Errors
+///
+/// `OutOfMemory` if there is no memory for the list of them.
+fn line_words<'a>(alloc: Global, line: &'a [u8]) -> Result<Words<'a>, OutOfMemory>
+    ensures { IfOk result (λ list. list ≡ line_words line.now) }
+{
+    words_of(alloc, before_byte(line, b'#'))
+}
+
+/// The command of a line, if the line has one.
+///
+/// # Errors
+///
+/// - `Refused` if the line is refused, with its number and the first kind that holds for it.
+/// - `OutOfMemory` if there is no memory for the command.
 #[tactic(auto, using(crate::proofs::ScriptLemmas::line_text))]
 fn read_line(alloc: Global, number: u32, line: &[u8]) -> Result<Option<Command>, ScriptFault>
     ensures { Gives result (line_of number line.now) }
 {
-    let words = words_of(alloc, line)?;
+    let words = line_words(alloc, line)?;
     match refusal(number, line, &words) {
         Some(kind) => Err(ScriptFault::Refused { line: number, kind }),
         None => Ok(command(alloc, &words)?),
     }
 }
 
+/// Adds a command to the others, if there is one.
+///
+/// # Errors
+///
+/// `OutOfMemory` if there is no memory for it.
 fn keep(commands: &mut Vec<Command>, command: Option<Command>) -> Result<(), OutOfMemory>
     ensures { OnOk result (commands.new.items ≡ commands.old.items ++ option_to_list command) }
 {
@@ -111,8 +124,12 @@ fn keep(commands: &mut Vec<Command>, command: Option<Command>) -> Result<(), Out
     Ok(())
 }
 
-/// The script that bytes are, or the first line that is refused with the first kind that holds of
-/// it.
+/// The script that bytes are.
+///
+/// # Errors
+///
+/// - `Refused` if a line is refused: the first such line, and the first kind that holds for it.
+/// - `OutOfMemory` if there is no memory for the commands.
 pub fn parse(alloc: Global, bytes: &[u8]) -> Result<Script, ScriptFault>
     ensures { Gives result (script_of bytes.now) }
 {

@@ -50,6 +50,13 @@ impl From<OutOfMemory> for Stop {
 }
 
 /// Does one command, and writes its text after it has ended.
+///
+/// # Errors
+///
+/// - `Shelf` only if the shelf failed, and only at a command that reads a file; nothing was written
+///   then.
+/// - `Sink` only if the sink failed; a prefix of the text was written then, and not all of it.
+/// - `Memory` if there is no memory; nothing was written then.
 fn take_turn<F: Shelf, K: Sink>(
     alloc: Global,
     machine: Machine,
@@ -57,13 +64,13 @@ fn take_turn<F: Shelf, K: Sink>(
     shelf: &mut F,
     sink: &mut K,
 ) -> Result<Machine, Stop>
-    ensures told { (files : Files) → F.held shelf.old ≡ Some files
+    ensures taken { (files : Files) → F.files shelf.old ≡ Some files
         → TakesTurn files machine command.now result (K.taken sink.old) (K.taken sink.new) }
     ensures shelf_failed { IsErrOf result Stop.Shelf
         → Rose (F.faults shelf.old) (F.faults shelf.new) }
     ensures sink_failed { IsErrOf result Stop.Sink
         → Rose (K.faults sink.old) (K.faults sink.new) }
-    ensures held { F.held shelf.new ≡ F.held shelf.old }
+    ensures same_files { F.files shelf.new ≡ F.files shelf.old }
     ensures shelf_faults { F.faults shelf.old ≤ F.faults shelf.new }
     ensures sink_faults { K.faults sink.old ≤ K.faults sink.new }
     ensures becomes { F.becomes shelf.old shelf.new × K.becomes sink.old sink.new }
@@ -76,19 +83,26 @@ fn take_turn<F: Shelf, K: Sink>(
 
 /// Does the commands of a script on a new machine, one after the other, and writes the text of each
 /// after it has ended.
+///
+/// # Errors
+///
+/// - `Shelf` only if the shelf failed; the texts of the commands before one that reads a file were
+///   written then.
+/// - `Sink` only if the sink failed; a prefix of the text was written then, and not all of it.
+/// - `Memory` if there is no memory; a prefix of the text was written then.
 pub fn replay<F: Shelf, K: Sink>(
     alloc: Global,
     script: &Script,
     shelf: &mut F,
     sink: &mut K,
 ) -> Result<(), Stop>
-    ensures told { (files : Files) → F.held shelf.old ≡ Some files
+    ensures taken { (files : Files) → F.files shelf.old ≡ Some files
         → Replays files script.now.commands result (K.taken sink.old) (K.taken sink.new) }
     ensures shelf_failed { IsErrOf result Stop.Shelf
         → Rose (F.faults shelf.old) (F.faults shelf.new) }
     ensures sink_failed { IsErrOf result Stop.Sink
         → Rose (K.faults sink.old) (K.faults sink.new) }
-    ensures held { F.held shelf.new ≡ F.held shelf.old }
+    ensures same_files { F.files shelf.new ≡ F.files shelf.old }
     ensures shelf_faults { F.faults shelf.old ≤ F.faults shelf.new }
     ensures sink_faults { K.faults sink.old ≤ K.faults sink.new }
     ensures becomes { F.becomes shelf.old shelf.new × K.becomes sink.old sink.new }

@@ -8,6 +8,11 @@ use fw_types::{Command, DumpLine, Event, ImageNote, OutOfMemory, Reply, RomEnd};
 use std::alloc::{AllocError, Global};
 use std::fmt::Write;
 
+/// Writes the line of a command.
+///
+/// # Errors
+///
+/// `AllocError` if there is no memory for the text.
 fn write_command(out: &mut String, command: &Command) -> Result<(), AllocError>
     ensures { OnOk result
         (string_bytes out.new ≡ string_bytes out.old ++ line (codes ">" ∷ command_words command.now)) }
@@ -20,6 +25,11 @@ fn write_command(out: &mut String, command: &Command) -> Result<(), AllocError>
     }
 }
 
+/// Writes the line of an event.
+///
+/// # Errors
+///
+/// `AllocError` if there is no memory for the text.
 fn write_event(out: &mut String, event: &Event) -> Result<(), AllocError>
     ensures { OnOk result (string_bytes out.new ≡ string_bytes out.old ++ event_line event.now) }
 {
@@ -32,6 +42,11 @@ fn write_event(out: &mut String, event: &Event) -> Result<(), AllocError>
     )
 }
 
+/// Writes the lines of events.
+///
+/// # Errors
+///
+/// `AllocError` if there is no memory for the text.
 fn write_events(out: &mut String, events: &[Event]) -> Result<(), AllocError>
     ensures { OnOk result
         (string_bytes out.new ≡ string_bytes out.old ++ flat_map event_line events.now) }
@@ -42,6 +57,11 @@ fn write_events(out: &mut String, events: &[Event]) -> Result<(), AllocError>
     Ok(())
 }
 
+/// Writes the line of an image with a note of one word.
+///
+/// # Errors
+///
+/// `AllocError` if there is no memory for the text.
 fn write_note(out: &mut String, number: u64, note: &str) -> Result<(), AllocError>
     ensures { OnOk result (string_bytes out.new
         ≡ string_bytes out.old ++ line (codes "image" ∷ decimal number ∷ note.now ∷ [])) }
@@ -49,6 +69,11 @@ fn write_note(out: &mut String, number: u64, note: &str) -> Result<(), AllocErro
     writeln!(out, "image {number} {note}")
 }
 
+/// Writes the line of an image.
+///
+/// # Errors
+///
+/// `AllocError` if there is no memory for the text.
 fn write_image(out: &mut String, number: u64, note: &ImageNote) -> Result<(), AllocError>
     ensures { OnOk result (string_bytes out.new
         ≡ string_bytes out.old ++ line (codes "image" ∷ decimal number ∷ note_words note.now)) }
@@ -71,6 +96,11 @@ fn write_image(out: &mut String, number: u64, note: &ImageNote) -> Result<(), Al
     }
 }
 
+/// Writes the lines of images, which are numbered from 1.
+///
+/// # Errors
+///
+/// `AllocError` if there is no memory for the text.
 fn write_images(out: &mut String, images: &[ImageNote]) -> Result<(), AllocError>
     ensures { OnOk result
         (string_bytes out.new ≡ string_bytes out.old ++ image_lines 1 images.now) }
@@ -83,6 +113,11 @@ fn write_images(out: &mut String, images: &[ImageNote]) -> Result<(), AllocError
     Ok(())
 }
 
+/// Writes the line that says how an option ROM ended, if there is one.
+///
+/// # Errors
+///
+/// `AllocError` if there is no memory for the text.
 fn write_rom_end(out: &mut String, end: Option<RomEnd>) -> Result<(), AllocError>
     ensures { OnOk result (string_bytes out.new ≡ string_bytes out.old ++ rom_line end) }
 {
@@ -95,10 +130,15 @@ fn write_rom_end(out: &mut String, end: Option<RomEnd>) -> Result<(), AllocError
     }
 }
 
-fn write_dump_line(out: &mut String, said: &DumpLine) -> Result<(), AllocError>
-    ensures { OnOk result (string_bytes out.new ≡ string_bytes out.old ++ dump_line said.now) }
+/// Writes a line of a dump.
+///
+/// # Errors
+///
+/// `AllocError` if there is no memory for the text.
+fn write_dump_line(out: &mut String, entry: &DumpLine) -> Result<(), AllocError>
+    ensures { OnOk result (string_bytes out.new ≡ string_bytes out.old ++ dump_line entry.now) }
 {
-    match said {
+    match entry {
         DumpLine::Handle(handle) => writeln!(out, "handle {handle}"),
         DumpLine::Proto {
             guid,
@@ -114,17 +154,26 @@ fn write_dump_line(out: &mut String, said: &DumpLine) -> Result<(), AllocError>
     }
 }
 
+/// Writes the lines of a dump.
+///
+/// # Errors
+///
+/// `AllocError` if there is no memory for the text.
 fn write_dump(out: &mut String, dump: &[DumpLine]) -> Result<(), AllocError>
     ensures { OnOk result
         (string_bytes out.new ≡ string_bytes out.old ++ flat_map dump_line dump.now) }
 {
-    for said in dump {
-        write_dump_line(out, said)?;
+    for entry in dump {
+        write_dump_line(out, entry)?;
     }
     Ok(())
 }
 
 /// The text of a command and its reply.
+///
+/// # Errors
+///
+/// `OutOfMemory` if there is no memory for the text.
 pub fn render(alloc: Global, command: &Command, reply: &Reply) -> Result<String, OutOfMemory>
     ensures { IfOk result (λ text. string_bytes text ≡ reply_text command.now reply.now) }
 {

@@ -4,7 +4,7 @@ ghost use Rattle.replay_shell.specs.Report.{cause_word, end_word, kind_word, out
 use fw_types::{Cause, EventKind, Outcome, PeRefusal, RomEnd, Status};
 use std::fmt;
 
-/// A status by its name, or by its value where it has none.
+/// A status by its name, or by its value if it has no name.
 #[derive(Clone, Copy)]
 pub struct StatusWord(pub Status);
 
@@ -23,7 +23,7 @@ impl fmt::Display for StatusWord {
     }
 }
 
-/// How a driver call ended: its value, or the cause of its trap.
+/// How a driver call ended: with a value, or with the cause of a trap.
 #[derive(Clone, Copy)]
 pub struct OutcomeWord(pub Outcome);
 
@@ -44,6 +44,7 @@ impl fmt::Display for OutcomeWord {
     }
 }
 
+/// The word for the cause of a trap.
 pub fn cause_name(cause: Cause) -> &'static str
     ensures { result.now ≡ cause_word cause }
 {
@@ -55,19 +56,28 @@ pub fn cause_name(cause: Cause) -> &'static str
         Cause::Divide => "Divide",
         Cause::Break => "Break",
         Cause::BadCall => "BadCall",
+        Cause::Nest => "Nest",
         Cause::Budget => "Budget",
         Cause::Thunks => "Thunks",
     }
 }
 
+/// The word for the kind of an event.
 pub fn kind_name(kind: EventKind) -> &'static str
     ensures { result.now ≡ kind_word kind }
 {
     match kind {
         EventKind::Entry => "entry",
+        EventKind::Supported => "supported",
+        EventKind::Start => "start",
+        EventKind::Stop => "stop",
+        EventKind::Unload => "unload",
+        EventKind::Connect => "connect",
+        EventKind::Disconnect => "disconnect",
     }
 }
 
+/// The word for why an image is refused.
 pub fn refusal_name(refusal: PeRefusal) -> &'static str
     ensures { result.now ≡ refusal_word refusal }
 {
@@ -87,6 +97,7 @@ pub fn refusal_name(refusal: PeRefusal) -> &'static str
     }
 }
 
+/// The word for how an option ROM ended.
 pub fn end_name(end: RomEnd) -> &'static str
     ensures { result.now ≡ end_word end }
 {

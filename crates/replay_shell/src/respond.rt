@@ -1,10 +1,10 @@
-ghost use Rattle.std.specs.Prelude.{◌≡◌, ◌≢◌, Ok, Some, IfErr, IfOk, IsErrOf, List, false, is_none, nat_eq, option_map, string_bytes};
+ghost use Rattle.std.specs.Prelude.{◌≡◌, ◌≢◌, Some, IfErr, IfOk, IsErrOf, List, false, is_none, nat_eq, option_map, string_bytes};
 ghost use Rattle.fw_types.specs.declared.command.Command.{Command as CommandValue};
 ghost use Rattle.fw_shelf.specs.Faults.{Rose};
 ghost use Rattle.fw_shelf.specs.Shelf.{Files, file_of};
-ghost use Rattle.replay_shell.specs.Headline.{Ends, EndsWith, answer, asked, file_answer, file_commands, form_of, form_told, gave_up, script_answer, script_commands, words_in};
+ghost use Rattle.replay_shell.specs.Headline.{Ends, EndsWith, answer, file_answer, file_commands, form_of, form_of_verb, form_value, gives_up, script_answer, script_commands, words_in};
 ghost use Rattle.replay_shell.specs.OtherTexts.{kind_word, refused_line};
-ghost use Rattle.replay_shell.specs.ScriptGrammar.{script_of};
+ghost use Rattle.replay_shell.specs.ScriptGrammar.{accepted, script_of};
 
 use crate::disasm::list_image;
 use crate::read::parse;
@@ -24,20 +24,20 @@ pub enum Form<'a> {
     Disasm(&'a str),
 }
 
-/// The form of the words, where they are of one.
-fn form_asked(words: &Vec<String>) -> Option<Form<'_>>
-    ensures { option_map asked result ≡ form_of (words_in words.now.items) }
+/// The form of the words, if they have one.
+fn form_of_words(words: &Vec<String>) -> Option<Form<'_>>
+    ensures { option_map form_value result ≡ form_of (words_in words.now.items) }
 {
     if words.len() == 2 {
-        form_told(words[0].as_str(), words[1].as_str())
+        form_of_verb(words[0].as_str(), words[1].as_str())
     } else {
         None
     }
 }
 
 /// The form of a verb and a name.
-fn form_told<'a>(verb: &str, name: &'a str) -> Option<Form<'a>>
-    ensures { option_map asked result ≡ form_told verb.now name.now }
+fn form_of_verb<'a>(verb: &str, name: &'a str) -> Option<Form<'a>>
+    ensures { option_map form_value result ≡ form_of_verb verb.now name.now }
 {
     if verb == "run" {
         Some(Form::Run(name))
@@ -48,6 +48,7 @@ fn form_told<'a>(verb: &str, name: &'a str) -> Option<Form<'a>>
     }
 }
 
+/// The word for a kind.
 fn kind_name(kind: ScriptKind) -> &'static str
     ensures { result.now ≡ kind_word kind }
 {
@@ -58,7 +59,11 @@ fn kind_name(kind: ScriptKind) -> &'static str
     }
 }
 
-/// The line that tells which line of a script is refused.
+/// The line that says which line of a script is refused.
+///
+/// # Errors
+///
+/// `OutOfMemory` if there is no memory for the line.
 fn refusal(alloc: Global, line: u32, kind: ScriptKind) -> Result<String, OutOfMemory>
     ensures { IfOk result (λ text. string_bytes text ≡ refused_line line kind) }
 {
@@ -67,8 +72,18 @@ fn refusal(alloc: Global, line: u32, kind: ScriptKind) -> Result<String, OutOfMe
 }
 
 /// Answers that a line of the script is refused.
-fn refuse<K: Sink>(alloc: Global, line: u32, kind: ScriptKind, sink: &mut K) -> Result<u8, Stop>
-    ensures told { (files : Files) (commands : List CommandValue)
+///
+/// # Errors
+///
+/// - `Sink` only if the sink failed.
+/// - `Memory` if there is no memory for the text.
+fn say_refusal<K: Sink>(
+    alloc: Global,
+    line: u32,
+    kind: ScriptKind,
+    sink: &mut K,
+) -> Result<u8, Stop>
+    ensures taken { (files : Files) (commands : List CommandValue)
         → EndsWith (answer 2 (refused_line line kind)) files commands result
         (K.taken sink.old) (K.taken sink.new) }
     ensures status { IfOk result (λ answer. answer ≡ 2) }
@@ -81,18 +96,24 @@ fn refuse<K: Sink>(alloc: Global, line: u32, kind: ScriptKind, sink: &mut K) -> 
     say(sink, 2, text.as_bytes())
 }
 
-/// Replays the script that bytes are.
+/// Replays the script that bytes are, or says which of its lines is refused.
+///
+/// # Errors
+///
+/// - `Shelf` only if the shelf failed.
+/// - `Sink` only if the sink failed.
+/// - `Memory` if there is no memory.
 fn run_bytes<F: Shelf, K: Sink>(
     alloc: Global,
     bytes: &[u8],
     shelf: &mut F,
     sink: &mut K,
 ) -> Result<u8, Stop>
-    ensures told { (files : Files) → F.held shelf.old ≡ Some files
+    ensures taken { (files : Files) → F.files shelf.old ≡ Some files
         → EndsWith (script_answer files (script_of bytes.now)) files
         (script_commands (script_of bytes.now)) result (K.taken sink.old) (K.taken sink.new) }
     ensures status { IfOk result
-        (λ answer. (gave_up answer ≡ false) × (nat_eq answer 1 ≡ false)) }
+        (λ answer. (gives_up answer ≡ false) × (nat_eq answer 1 ≡ false)) }
     ensures shelf_failed { IsErrOf result Stop.Shelf
         → Rose (F.faults shelf.old) (F.faults shelf.new) }
     ensures sink_failed { IsErrOf result Stop.Sink
@@ -101,20 +122,26 @@ fn run_bytes<F: Shelf, K: Sink>(
 {
     match parse(alloc, bytes) {
         Ok(script) => run_commands(alloc, &script, shelf, sink),
-        Err(ScriptFault::Refused { line, kind }) => refuse(alloc, line, kind, sink),
+        Err(ScriptFault::Refused { line, kind }) => say_refusal(alloc, line, kind, sink),
         Err(ScriptFault::OutOfMemory) => Err(Stop::Memory),
     }
 }
 
 /// Replays a script.
+///
+/// # Errors
+///
+/// - `Shelf` only if the shelf failed.
+/// - `Sink` only if the sink failed.
+/// - `Memory` if there is no memory.
 fn run_commands<F: Shelf, K: Sink>(
     alloc: Global,
     script: &Script,
     shelf: &mut F,
     sink: &mut K,
 ) -> Result<u8, Stop>
-    ensures told { (files : Files) → F.held shelf.old ≡ Some files
-        → EndsWith (script_answer files (Ok script.now)) files script.now.commands result
+    ensures taken { (files : Files) → F.files shelf.old ≡ Some files
+        → EndsWith (script_answer files (accepted script.now)) files script.now.commands result
         (K.taken sink.old) (K.taken sink.new) }
     ensures status { IfOk result (λ answer. answer ≡ 0) }
     ensures shelf_failed { IsErrOf result Stop.Shelf
@@ -128,17 +155,23 @@ fn run_commands<F: Shelf, K: Sink>(
 }
 
 /// Reads the script under a name, once, and replays it.
+///
+/// # Errors
+///
+/// - `Shelf` only if the shelf failed.
+/// - `Sink` only if the sink failed.
+/// - `Memory` if there is no memory.
 fn run_script<F: Shelf, K: Sink>(
     alloc: Global,
     name: &str,
     shelf: &mut F,
     sink: &mut K,
 ) -> Result<u8, Stop>
-    ensures told { (files : Files) → F.held shelf.old ≡ Some files
+    ensures taken { (files : Files) → F.files shelf.old ≡ Some files
         → EndsWith (file_answer files (file_of files name.now)) files
         (file_commands (file_of files name.now)) result (K.taken sink.old) (K.taken sink.new) }
     ensures status { IfOk result
-        (λ answer. (gave_up answer ≡ false) × (nat_eq answer 1 ≡ false)) }
+        (λ answer. (gives_up answer ≡ false) × (nat_eq answer 1 ≡ false)) }
     ensures shelf_failed { IsErrOf result Stop.Shelf
         → Rose (F.faults shelf.old) (F.faults shelf.new) }
     ensures sink_failed { IsErrOf result Stop.Sink
@@ -154,17 +187,22 @@ fn run_script<F: Shelf, K: Sink>(
     }
 }
 
-/// Answers the words after the program's name: the status with which the program ends, or why it
-/// gave up.
+/// Answers the words after the program's name: the status with which the program ends.
+///
+/// # Errors
+///
+/// - `Shelf` only if the shelf failed.
+/// - `Sink` only if the sink failed.
+/// - `Memory` if there is no memory.
 pub fn respond<F: Shelf, K: Sink>(
     alloc: Global,
     words: &Vec<String>,
     shelf: &mut F,
     sink: &mut K,
 ) -> Result<u8, Stop>
-    ensures told { (files : Files) → F.held shelf.old ≡ Some files
+    ensures taken { (files : Files) → F.files shelf.old ≡ Some files
         → Ends files (words_in words.now.items) result (K.taken sink.old) (K.taken sink.new) }
-    ensures status { IfOk result (λ answer. gave_up answer ≡ false) }
+    ensures status { IfOk result (λ answer. gives_up answer ≡ false) }
     ensures usage { IfOk result
         (λ answer. nat_eq answer 1 ≡ is_none (form_of (words_in words.now.items))) }
     ensures shelf_failed { IsErrOf result Stop.Shelf
@@ -173,7 +211,7 @@ pub fn respond<F: Shelf, K: Sink>(
         → Rose (K.faults sink.old) (K.faults sink.new) }
     ensures becomes { F.becomes shelf.old shelf.new × K.becomes sink.old sink.new }
 {
-    match form_asked(words) {
+    match form_of_words(words) {
         Some(Form::Run(name)) => run_script(alloc, name, shelf, sink),
         Some(Form::Disasm(name)) => list_image(alloc, name, shelf, sink),
         None => say(

@@ -1,86 +1,76 @@
 ghost use Rattle.std.specs.Prelude.{◌≡◌, Some, IfOk, OnOk};
-ghost use Rattle.world_model.specs.World.{State};
 ghost use Rattle.driver_model.specs.Spending.{Spends};
 ghost use Rattle.replay_shell.specs.Machine.{IsAtRest};
-ghost use Rattle.replay_shell.specs.ImageLife.{came_of as load_came_of, loaded};
-ghost use Rattle.replay_shell.specs.RomLoad.{came_of, is_driver, is_rom, none_tried, rom_status, stays, with_image, with_images, with_load, with_note};
+ghost use Rattle.replay_shell.specs.RomLoad.{is_driver, is_loaded, is_rom, no_images, rom_status, with_driver, with_image, with_images, with_load, with_note};
 ghost use Rattle.option_rom.specs.RomGrammar.{rom_in};
 
-use crate::image_life::{Loading, load_image};
-use fw_types::{ImageNote, OutOfMemory, RomEnd, Status};
+use crate::image_life::{ImageLoad, load_image};
+use fw_types::{EFI_CODE, ImageNote, MACHINE_EBC, OutOfMemory, RomEnd, Rows, Status};
 use fw_world::World;
 use option_rom::{RomImage, images};
 use std::alloc::Global;
 
-/// The code type of EFI images.
-const EFI_CODE: u8 = 3;
-
-/// The machine of EBC images.
-const EBC: u16 = 0x0EBC;
-
 /// What came of the images of an option ROM so far.
 #[derive(Debug, Drop)]
-pub struct Tried {
+pub struct RomTally {
     /// A note on each image, in order.
-    pub notes: Vec<ImageNote>,
-    /// Whether one stayed loaded.
-    pub stayed: bool,
-    /// The status of the last load that was tried.
-    pub last: Option<Status>,
+    pub notes: Rows<ImageNote>,
+    /// Whether one of them stays loaded.
+    pub any_loaded: bool,
+    /// The status of the last load, if there was one.
+    pub last_status: Option<Status>,
 }
 
-/// Whether a file is an option ROM: it begins with the signature of its header.
+/// Whether a file is an option ROM: whether it begins with the signature of its header (PCI
+/// Firmware 3.2, 5.1: PCI expansion ROM header format).
 pub fn is_rom(file: &[u8]) -> bool
     ensures { result ≡ is_rom file.now }
 {
     file.starts_with(&[0x55, 0xAA])
 }
 
-impl Tried {
-    fn new(alloc: Global) -> Tried
-        ensures { (world : State) → came_of result world ≡ none_tried world }
+impl RomTally {
+    fn new(alloc: Global) -> RomTally
+        ensures { result ≡ no_images }
     {
-        Tried {
-            notes: Vec::new(alloc),
-            stayed: false,
-            last: None,
+        RomTally {
+            notes: Rows::of(Vec::new(alloc)),
+            any_loaded: false,
+            last_status: None,
         }
     }
 
-    /// Notes an image that is not tried.
+    /// Notes an image that is not loaded.
     fn note(&mut self, note: ImageNote) -> Result<(), OutOfMemory>
-        ensures { (world : State) → OnOk result
-            (with_note note (came_of self.old world) ≡ came_of self.new world) }
+        ensures { OnOk result (self.new ≡ with_note note self.old) }
     {
-        self.notes.push(note)?;
-        Ok(())
+        self.notes.push(note)
     }
 
     /// Notes what came of a load.
-    fn note_load(&mut self, loading: Loading) -> Result<(), OutOfMemory>
-        ensures { (before after : State) → OnOk result
-            (with_load (load_came_of loading after) (came_of self.old before)
-            ≡ came_of self.new after) }
+    fn note_load(&mut self, load: ImageLoad) -> Result<(), OutOfMemory>
+        ensures { OnOk result (self.new ≡ with_load load self.old) }
     {
-        self.notes.push(loading.note)?;
-        self.stayed = self.stayed || is_loaded(loading.note);
-        self.last = Some(loading.status);
+        self.notes.push(load.note)?;
+        self.any_loaded = self.any_loaded || is_loaded(load.note);
+        self.last_status = Some(load.status);
         Ok(())
     }
 
-    /// The status of the whole load.
+    /// The status of the load of the whole option ROM.
     pub fn status(&self) -> Status
-        ensures { (world : State) → result ≡ rom_status (came_of self.now world) }
+        ensures { result ≡ rom_status self.now }
     {
-        if self.stayed {
+        if self.any_loaded {
             return Status::SUCCESS;
         }
-        self.last.unwrap_or(Status::UNSUPPORTED)
+        self.last_status.unwrap_or(Status::UNSUPPORTED)
     }
 }
 
+/// Whether a note says that an image stays loaded.
 fn is_loaded(note: ImageNote) -> bool
-    ensures { result ≡ stays note }
+    ensures { result ≡ is_loaded note }
 {
     match note {
         ImageNote::Loaded(_) => true,
@@ -92,51 +82,71 @@ fn is_loaded(note: ImageNote) -> bool
 fn is_driver(image: &RomImage<'_>) -> bool
     ensures { result ≡ is_driver image.now }
 {
-    image.code_type == EFI_CODE && image.machine == EBC
+    image.code_type == EFI_CODE && image.machine == MACHINE_EBC
 }
 
-/// Loads a driver.
-fn try_driver(world: &mut World, tried: &mut Tried, file: &[u8]) -> Result<(), OutOfMemory>
+/// Loads a driver, and notes what came of it.
+///
+/// # Errors
+///
+/// `OutOfMemory` if there is no memory for the load or for the note.
+fn add_driver(world: &mut World, tally: &mut RomTally, file: &[u8]) -> Result<(), OutOfMemory>
     requires { IsAtRest world.old }
-    ensures done { OnOk result (with_load (loaded file.now world.old.now) (came_of tried.old world.old.now)
-        ≡ came_of tried.new world.new.now) }
+    ensures done { OnOk result (with_driver file.now (tally.old, world.old.now)
+        ≡ (tally.new, world.new.now)) }
     ensures spends { OnOk result (Spends world.old.now world.new.now) }
     ensures rest { OnOk result (IsAtRest world.new) }
 {
-    let loading = load_image(world, file)?;
-    tried.note_load(loading)
+    let load = load_image(world, file)?;
+    tally.note_load(load)
 }
 
-/// Loads an image, or notes why it is not tried.
-fn try_image(world: &mut World, tried: &mut Tried, image: &RomImage<'_>) -> Result<(), OutOfMemory>
+/// Loads an image if it is a driver that is not compressed, and notes what came of it.
+///
+/// # Errors
+///
+/// `OutOfMemory` if there is no memory for the load or for the note.
+fn add_image(
+    world: &mut World,
+    tally: &mut RomTally,
+    image: &RomImage<'_>,
+) -> Result<(), OutOfMemory>
     requires { IsAtRest world.old }
-    ensures done { OnOk result (with_image image.now (came_of tried.old world.old.now)
-        ≡ came_of tried.new world.new.now) }
+    ensures done { OnOk result (with_image image.now (tally.old, world.old.now)
+        ≡ (tally.new, world.new.now)) }
     ensures spends { OnOk result (Spends world.old.now world.new.now) }
     ensures rest { OnOk result (IsAtRest world.new) }
 {
     if !is_driver(image) {
-        return tried.note(ImageNote::Skipped);
+        return tally.note(ImageNote::Skipped);
     }
     if image.compression != 0 {
-        return tried.note(ImageNote::Compressed);
+        return tally.note(ImageNote::Compressed);
     }
-    try_driver(world, tried, image.body)
+    add_driver(world, tally, image.body)
 }
 
 /// Loads the images of an option ROM, in order: what came of them, and how the ROM ended.
-pub fn load_images(world: &mut World, file: &[u8]) -> Result<(Tried, Option<RomEnd>), OutOfMemory>
+///
+/// # Errors
+///
+/// `OutOfMemory` if there is no memory for a load or for the notes.
+pub fn load_images(
+    world: &mut World,
+    file: &[u8],
+) -> Result<(RomTally, Option<RomEnd>), OutOfMemory>
     requires { IsAtRest world.old }
-    ensures done { IfOk result (λ told. with_images (rom_in file.now).images (none_tried world.old.now)
-        ≡ came_of told.0 world.new.now) }
-    ensures end { IfOk result (λ told. told.1 ≡ Some (rom_in file.now).end) }
+    ensures done { IfOk result (λ rom.
+        with_images (rom_in file.now).images (no_images, world.old.now)
+        ≡ (rom.0, world.new.now)) }
+    ensures end { IfOk result (λ rom. rom.1 ≡ Some (rom_in file.now).end) }
     ensures spends { OnOk result (Spends world.old.now world.new.now) }
     ensures rest { OnOk result (IsAtRest world.new) }
 {
-    let mut tried = Tried::new(world.alloc());
+    let mut tally = RomTally::new(world.alloc());
     let mut walk = images(file);
     while let Some(image) = walk.next() {
-        try_image(world, &mut tried, &image)?;
+        add_image(world, &mut tally, &image)?;
     }
-    Ok((tried, walk.end()))
+    Ok((tally, walk.end()))
 }

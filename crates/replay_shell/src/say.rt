@@ -8,9 +8,14 @@ use crate::replay::Stop;
 use fw_shelf::{Sink, write_all};
 
 /// Writes a text, and answers a status.
+///
+/// # Errors
+///
+/// `Sink` only if the sink failed; a prefix of the text was written then, and not all of it.
 pub fn say<K: Sink>(sink: &mut K, status: u8, text: &[u8]) -> Result<u8, Stop>
-    ensures told { (files : Files) (commands : List CommandValue)
-        → EndsWith (answer status text.now) files commands result (K.taken sink.old) (K.taken sink.new) }
+    ensures taken { (files : Files) (commands : List CommandValue)
+        → EndsWith (answer status text.now) files commands result
+        (K.taken sink.old) (K.taken sink.new) }
     ensures status { IfOk result (λ answer. answer ≡ status) }
     ensures sink_alone { IfErr result (λ stop. stop ≡ Stop.Sink) }
     ensures sink_failed { OnErr result (Rose (K.faults sink.old) (K.faults sink.new)) }

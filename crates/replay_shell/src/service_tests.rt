@@ -4,14 +4,14 @@ use fw_shelf::MemSink;
 use std::alloc::Global;
 use std::test::Fail;
 
-/// Puts the address of the boot services into R4: they are a field of the system table, which is the
-/// second argument of an entry.
+/// Puts the address of the boot services into R4: they are a field of the system table, which is
+/// the second argument of an entry.
 pub const FIND_SERVICES: &str = "\
     MOVqw R4, @R0[0x0018]\n\
     MOVqw R4, @R4[0x0060]\n";
 
-/// Calls AllocatePool for 24 bytes. R1 points to the 8 bytes in which the address is stored, which are on
-/// the stack.
+/// Calls AllocatePool for 24 bytes. R1 points to the 8 bytes in which the address is stored, which
+/// are on the stack.
 const ALLOCATE: &str = "\
     PUSHn R6\n\
     MOVqw R1, R0\n\
@@ -41,7 +41,7 @@ const SET: &str = "CALL32EXa @R4[0x00000168]\n";
 /// Answers the 8 bytes to which R1 points.
 pub const ANSWER: &str = "MOVqw R7, @R1\n";
 
-/// Leaves, where R1 points to the first 8 bytes that were put on the stack.
+/// Leaves. R1 points to the first 8 bytes that were put on the stack.
 pub const LEAVE: &str = "\
     MOVqw R0, R1[0x0008]\n\
     RET\n";
@@ -51,7 +51,7 @@ const NO_STACK: &str = "\
     MOVIqw R5, 144\n\
     ADD64 R0, R5\n";
 
-/// A place for a thunk, whose entry is the RET behind it.
+/// A place for a thunk, whose entry is the RET after it.
 const PLACE: &str = "\
     place:\n\
     .byte 4, 0, 0, 0, 0, 0, 0, 0\n\
@@ -69,18 +69,18 @@ pub fn assembled(alloc: Global, parts: &[&str]) -> Result<Vec<u8>, Fail> {
     Ok(assemble(alloc, text.as_str()).ok().ok_or("refused")?)
 }
 
-/// What is written where a script loads the image of a code.
+/// What is written if a script loads the image of a code.
 fn loaded(alloc: Global, code: &[u8]) -> Result<(u8, MemSink), Fail> {
     Ok(replayed(alloc, b"load a.efi\n", code, b"\x04\x00")?)
 }
 
-// Of the units in these reports laying costs 16 and a call 64; the others are one for each instruction, and
-// the prices of the services.
+// Of the units in these reports laying costs 16 and a call 64; the others are one for each
+// instruction, and the prices of the services.
 
 #[test]
 fn blocks_are_made_and_given_back(rt: HostRuntime) -> Result<(), Fail> {
     let alloc = rt.alloc();
-    // What is done behind an AllocatePool, and what the report says of it.
+    // What is done after an AllocatePool, and what the report says of it.
     let cases: [(&[&str], &str); 3] = [
         (
             &[ANSWER, LEAVE],
@@ -96,13 +96,13 @@ fn blocks_are_made_and_given_back(rt: HostRuntime) -> Result<(), Fail> {
             "1 0 entry 3 0 0 INVALID_PARAMETER\nimage 1 INVALID_PARAMETER\n= INVALID_PARAMETER 104\n",
         ),
     ];
-    for (parts, said) in cases {
+    for (parts, lines) in cases {
         let mut code = assembled(alloc, &[FIND_SERVICES, ALLOCATE])?;
         code.extend_from_slice(assembled(alloc, parts)?.as_slice())?;
         let (status, sink) = loaded(alloc, code.as_slice())?;
-        let report = format!(in alloc; "> load a.efi\n{said}")?;
-        assert_eq!(rt; status, 0, "at {said}");
-        assert_eq!(rt; sink.taken(), report.as_bytes(), "at {said}");
+        let report = format!(in alloc; "> load a.efi\n{lines}")?;
+        assert_eq!(rt; status, 0, "at {lines}");
+        assert_eq!(rt; sink.taken(), report.as_bytes(), "at {lines}");
     }
     Ok(())
 }
@@ -166,12 +166,12 @@ fn bytes_are_set_and_copied(rt: HostRuntime) -> Result<(), Fail> {
             "1 0 entry 3 0 0 0x0807080706050403\nimage 1 handle 3\n= SUCCESS 95\n",
         ),
     ];
-    for (parts, said) in cases {
+    for (parts, lines) in cases {
         let code = assembled(alloc, parts)?;
         let (status, sink) = loaded(alloc, code.as_slice())?;
-        let report = format!(in alloc; "> load a.efi\n{said}")?;
-        assert_eq!(rt; status, 0, "at {said}");
-        assert_eq!(rt; sink.taken(), report.as_bytes(), "at {said}");
+        let report = format!(in alloc; "> load a.efi\n{lines}")?;
+        assert_eq!(rt; status, 0, "at {lines}");
+        assert_eq!(rt; sink.taken(), report.as_bytes(), "at {lines}");
     }
     Ok(())
 }
@@ -181,7 +181,8 @@ fn prices_come_before_the_work(rt: HostRuntime) -> Result<(), Fail> {
     let alloc = rt.alloc();
     // What is done with the boot services in R4, and what the report says of it.
     let cases: [(&[&str], &str); 6] = [
-        // SetMem at 0 of so many bytes that its price is all that the call has left, and one unit more.
+        // SetMem at 0 of so many bytes that its price is all that the call has left, and one unit
+        // more.
         (
             &["MOVIqd R5, 8388032\nPUSHn R6\nPUSHn R5\nPUSHn R6\n", SET],
             "1 0 entry 3 0 0 trap:Memory\nimage 1 ABORTED\n= ABORTED 1048592\n",
@@ -190,8 +191,8 @@ fn prices_come_before_the_work(rt: HostRuntime) -> Result<(), Fail> {
             &["MOVIqd R5, 8388033\nPUSHn R6\nPUSHn R5\nPUSHn R6\n", SET],
             "1 0 entry 3 0 0 trap:Budget\nimage 1 ABORTED\n= ABORTED 87\n",
         ),
-        // No argument can be read. Stall has a price of its own, which is spent; that of AllocatePool names
-        // an argument.
+        // No argument can be read. Stall has a price of its own, which is spent; that of
+        // AllocatePool names an argument.
         (
             &[NO_STACK, "CALL32EXa @R4[0x000000F8]\n"],
             "1 0 entry 3 0 0 trap:Memory\nimage 1 ABORTED\n= ABORTED 86\n",
@@ -214,13 +215,13 @@ fn prices_come_before_the_work(rt: HostRuntime) -> Result<(), Fail> {
             "1 0 entry 3 0 0 UNSUPPORTED\nimage 1 UNSUPPORTED\n= UNSUPPORTED 85\n",
         ),
     ];
-    for (parts, said) in cases {
+    for (parts, lines) in cases {
         let mut code = assembled(alloc, &[FIND_SERVICES])?;
         code.extend_from_slice(assembled(alloc, parts)?.as_slice())?;
         let (status, sink) = loaded(alloc, code.as_slice())?;
-        let report = format!(in alloc; "> load a.efi\n{said}")?;
-        assert_eq!(rt; status, 0, "at {said}");
-        assert_eq!(rt; sink.taken(), report.as_bytes(), "at {said}");
+        let report = format!(in alloc; "> load a.efi\n{lines}")?;
+        assert_eq!(rt; status, 0, "at {lines}");
+        assert_eq!(rt; sink.taken(), report.as_bytes(), "at {lines}");
     }
     Ok(())
 }
@@ -228,8 +229,8 @@ fn prices_come_before_the_work(rt: HostRuntime) -> Result<(), Fail> {
 #[test]
 fn the_task_priority_level_is_as_before_a_call(rt: HostRuntime) -> Result<(), Fail> {
     let alloc = rt.alloc();
-    // RaiseTPL to 16 once and twice; and RestoreTPL to 16 before it, which is above the level. Each code is
-    // loaded twice, and answers the level that its last call found.
+    // RaiseTPL to 16 once and twice; and RestoreTPL to 16 before it, which is above the level. Each
+    // code is loaded twice, and answers the level that its last call found.
     let cases: [(&str, &str); 3] = [
         (
             "CALL32EXa @R4[0x00000018]\n",
@@ -274,26 +275,27 @@ fn native_code_is_called_by_its_address(rt: HostRuntime) -> Result<(), Fail> {
         (0x2_2008, unsupported),
         (0x2_2010, unsupported),
         (0x2_3000, unsupported),
-        // Functions of PCI I/O: the first, Mem.Read and the last; and behind it.
+        // Functions of PCI I/O: the first, Mem.Read and the last; and the address after it.
         (0x2_1000, unsupported),
         (0x2_1010, unsupported),
         (0x2_1088, unsupported),
         (0x2_1090, bad_call),
-        // The exit address, where nothing is to be called.
+        // The exit address, at which there is nothing to call.
         (0x2_4000, bad_call),
-        // The header of the boot services, an odd address in it, and behind the last service.
+        // The header of the boot services, an odd address in it, and the address after the last
+        // service.
         (0x2_0000, bad_call),
         (0x2_0011, bad_call),
         (0x2_0178, bad_call),
-        // A thunk that no code has asked for, and nothing at all.
+        // A thunk that no code has requested, and nothing at all.
         (0x40_0000, bad_call),
         (0, bad_call),
     ];
-    for (at, said) in cases {
+    for (at, lines) in cases {
         let first = format!(in alloc; "MOVIqd R1, {at}\n")?;
         let code = assembled(alloc, &[first.as_str(), "CALL32EXa R1\nRET\n"])?;
         let (status, sink) = loaded(alloc, code.as_slice())?;
-        let report = format!(in alloc; "> load a.efi\n{said}")?;
+        let report = format!(in alloc; "> load a.efi\n{lines}")?;
         assert_eq!(rt; status, 0, "at {at}");
         assert_eq!(rt; sink.taken(), report.as_bytes(), "at {at}");
     }
@@ -306,7 +308,8 @@ fn thunks_are_made_of_entries_in_images(rt: HostRuntime) -> Result<(), Fail> {
     let align = "1 0 entry 3 0 0 trap:Align\nimage 1 ABORTED\n= ABORTED 82\n";
     let fetch = "1 0 entry 3 0 0 trap:Fetch\nimage 1 ABORTED\n= ABORTED 82\n";
     let memory = "1 0 entry 3 0 0 trap:Memory\nimage 1 ABORTED\n= ABORTED 82\n";
-    // A code whose R7 points to a place as it asks for a thunk, and what the report says of its load.
+    // A code whose R7 points to a place as it asks for a thunk, and what the report says of its
+    // load.
     let cases: [(&[&str], &str); 8] = [
         // The place gets the thunk's address.
         (
@@ -321,7 +324,7 @@ fn thunks_are_made_of_entries_in_images(rt: HostRuntime) -> Result<(), Fail> {
             ],
             "1 0 entry 3 0 0 0x0000000000400010\nimage 1 handle 3\n= SUCCESS 86\n",
         ),
-        // An odd entry, one far in front of the image, and one far behind it.
+        // An odd entry, one far below the image, and one far above it.
         (
             &["MOVRELd R7, =place\nBREAK 5\nplace:\n.byte 5, 0, 0, 0, 0, 0, 0, 0\nRET\n"],
             align,
@@ -350,12 +353,12 @@ fn thunks_are_made_of_entries_in_images(rt: HostRuntime) -> Result<(), Fail> {
             "1 0 entry 3 0 0 trap:Thunks\nimage 1 ABORTED\n= ABORTED 196691\n",
         ),
     ];
-    for (parts, said) in cases {
+    for (parts, lines) in cases {
         let code = assembled(alloc, parts)?;
         let (status, sink) = loaded(alloc, code.as_slice())?;
-        let report = format!(in alloc; "> load a.efi\n{said}")?;
-        assert_eq!(rt; status, 0, "at {said}");
-        assert_eq!(rt; sink.taken(), report.as_bytes(), "at {said}");
+        let report = format!(in alloc; "> load a.efi\n{lines}")?;
+        assert_eq!(rt; status, 0, "at {lines}");
+        assert_eq!(rt; sink.taken(), report.as_bytes(), "at {lines}");
     }
     Ok(())
 }
@@ -375,13 +378,13 @@ fn asking(alloc: Global, end: &str) -> Result<Vec<u8>, Fail> {
 }
 
 #[test]
-fn what_a_failed_entry_asked_for_is_undone(rt: HostRuntime) -> Result<(), Fail> {
+fn what_a_failed_entry_requested_is_undone(rt: HostRuntime) -> Result<(), Fail> {
     let alloc = rt.alloc();
     let good = asking(alloc, "RET\n")?;
     let bad = asking(alloc, "BREAK 0\n")?;
     let cases: [(&str, &str); 2] = [
-        // The loaded image block of the second image, of 96 bytes, lies behind the first block of 24, which
-        // takes 32.
+        // The loaded image block of the second image, of 96 bytes, comes after the first block of
+        // 24, which takes 32.
         (
             "load a.efi\nload a.efi\n",
             "> load a.efi\n1 0 entry 3 0 0 0x0000000100400060\nimage 1 handle 3\n= SUCCESS 97\n> load a.efi\n1 0 entry 4 0 0 0x00000001004000f0\nimage 1 handle 4\n= SUCCESS 97\n",

@@ -5,9 +5,9 @@ use std::alloc::{AllocError, Global};
 use std::test::Fail;
 
 /// The smallest driver: MOVIqw R7, 0 and RET.
-const SMALLEST: &[u8] = b"\x77\x37\x00\x00\x04\x00";
+pub const SMALLEST: &[u8] = b"\x77\x37\x00\x00\x04\x00";
 
-/// What `run s` writes where the script loads the smallest driver.
+/// What `run s` writes if the script loads the smallest driver.
 const SMALLEST_REPORT: &str =
     "> load a.efi\n1 0 entry 3 0 0 SUCCESS\nimage 1 handle 3\n= SUCCESS 82\n";
 
@@ -166,7 +166,45 @@ fn loads_are_replayed(rt: HostRuntime) -> Result<(), Fail> {
     Ok(())
 }
 
-/// MOVIqd R1, 0x2000210; MOVqw R7, @R1; RET: the value is what the first image has 16 bytes behind
+#[test]
+fn traps_and_breaks_are_reported(rt: HostRuntime) -> Result<(), Fail> {
+    // A code, and the report after its first line.
+    let cases: [(&[u8], &str); 5] = [
+        // DIV64 R1, R2 by 0.
+        (
+            b"\x50\x21",
+            "1 0 entry 3 0 0 trap:Divide\nimage 1 ABORTED\n= ABORTED 81\n",
+        ),
+        // No instruction has the opcode 0x27.
+        (
+            b"\x27\x00",
+            "1 0 entry 3 0 0 trap:Illegal\nimage 1 ABORTED\n= ABORTED 81\n",
+        ),
+        // BREAK 1 puts the version of the virtual machine into R7; BREAK 3, 4 and 6 do nothing.
+        (
+            b"\x00\x01\x04\x00",
+            "1 0 entry 3 0 0 0x0000000000010000\nimage 1 handle 3\n= SUCCESS 82\n",
+        ),
+        (
+            b"\x00\x03\x00\x04\x00\x06\x04\x00",
+            "1 0 entry 3 0 0 SUCCESS\nimage 1 handle 3\n= SUCCESS 84\n",
+        ),
+        // BREAK 2 means nothing here.
+        (
+            b"\x00\x02\x04\x00",
+            "1 0 entry 3 0 0 trap:Break\nimage 1 ABORTED\n= ABORTED 81\n",
+        ),
+    ];
+    for (code, report) in cases {
+        let (status, sink) = replayed(rt.alloc(), b"load a.efi\n", code, SMALLEST)?;
+        let report = format!(in rt.alloc(); "> load a.efi\n{report}")?;
+        assert_eq!(rt; status, 0, "at {report}");
+        assert_eq!(rt; sink.taken(), report.as_bytes(), "at {report}");
+    }
+    Ok(())
+}
+
+/// MOVIqd R1, 0x2000210; MOVqw R7, @R1; RET: the value is what the first image has 16 bytes after
 /// its entry, where this code has zeros.
 const READER: &[u8] =
     b"\xB7\x31\x10\x02\x00\x02\x20\x97\x04\x00\x00\x00\x00\x00\x00\x00\x00\x00\x00\x00\x00\x00\x00\x00";
@@ -195,7 +233,7 @@ fn what_a_failed_entry_wrote_is_undone(rt: HostRuntime) -> Result<(), Fail> {
 
 #[test]
 fn a_driver_sees_what_the_firmware_maps(rt: HostRuntime) -> Result<(), Fail> {
-    // MOVI to R1 of an address, and what the code does there; and the report behind its first line.
+    // MOVI to R1 of an address, and what the code does there; and the report after its first line.
     let cases: [(&[u8], &str); 4] = [
         // The signature of the system table.
         (
@@ -217,51 +255,18 @@ fn a_driver_sees_what_the_firmware_maps(rt: HostRuntime) -> Result<(), Fail> {
             "1 0 entry 3 0 0 SUCCESS\nimage 1 handle 3\n= SUCCESS 83\n",
         ),
     ];
-    for (code, said) in cases {
+    for (code, report) in cases {
         let (status, sink) = replayed(rt.alloc(), b"load a.efi\n", code, SMALLEST)?;
-        let report = format!(in rt.alloc(); "> load a.efi\n{said}")?;
-        assert_eq!(rt; status, 0, "at {said}");
-        assert_eq!(rt; sink.taken(), report.as_bytes(), "at {said}");
-    }
-    Ok(())
-}
-
-#[test]
-fn a_narrow_move_keeps_its_low_bytes(rt: HostRuntime) -> Result<(), Fail> {
-    // MOVI to R7 with an immediate of 2, 4 and 8 bytes, of which 1, 2, 4 or 8 are moved; and the
-    // value of the entry.
-    let cases: [(&[u8], &str); 8] = [
-        (b"\x77\x07\x34\x92\x04\x00", "0x0000000000000034"),
-        (b"\x77\x17\x34\x92\x04\x00", "0x0000000000009234"),
-        (b"\x77\x27\x34\x92\x04\x00", "0x00000000ffff9234"),
-        (b"\x77\x37\x34\x92\x04\x00", "0xffffffffffff9234"),
-        (b"\xB7\x37\x78\x56\x34\x92\x04\x00", "0xffffffff92345678"),
-        (b"\xB7\x37\x78\x56\x34\x12\x04\x00", "0x0000000012345678"),
-        (
-            b"\xF7\x37\xF0\xDE\xBC\x9A\x78\x56\x34\x12\x04\x00",
-            "0x123456789abcdef0",
-        ),
-        (
-            b"\xF7\x27\xF0\xDE\xBC\x9A\x78\x56\x34\x12\x04\x00",
-            "0x000000009abcdef0",
-        ),
-    ];
-    for (code, value) in cases {
-        let (_, sink) = replayed(rt.alloc(), b"load a.efi", code, SMALLEST)?;
-        let event = format!(in rt.alloc(); "1 0 entry 3 0 0 {value}\n")?;
-        assert!(rt; sink.taken().len() > 13 + event.len());
-        assert_eq!(rt;
-            &sink.taken()[13..13 + event.len()],
-            event.as_bytes(),
-            "at {value}"
-        );
+        let report = format!(in rt.alloc(); "> load a.efi\n{report}")?;
+        assert_eq!(rt; status, 0, "at {report}");
+        assert_eq!(rt; sink.taken(), report.as_bytes(), "at {report}");
     }
     Ok(())
 }
 
 #[test]
 fn scripts_are_read_by_lines(rt: HostRuntime) -> Result<(), Fail> {
-    // A script, and the line that tells where and why it is refused, or none.
+    // A script, and the line that says where and why it is refused, or none.
     let cases: [(&str, &str); 14] = [
         ("\n# a comment\n  \t \n\tload  a.efi # another\r\n", ""),
         ("load a.efi#comment", ""),
@@ -290,25 +295,25 @@ fn scripts_are_read_by_lines(rt: HostRuntime) -> Result<(), Fail> {
     Ok(())
 }
 
-/// A script of so many bytes of one kind between two texts.
+/// A script of one byte, so many times, between two texts.
 fn stretched(
     alloc: Global,
-    front: &str,
+    first: &str,
     byte: u8,
     count: usize,
-    back: &str,
+    last: &str,
 ) -> Result<Vec<u8>, AllocError> {
-    let mut script = Vec::from_slice(alloc, front.as_bytes())?;
+    let mut script = Vec::from_slice(alloc, first.as_bytes())?;
     for _ in 0..count {
         script.push(byte)?;
     }
-    script.extend_from_slice(back.as_bytes())?;
+    script.extend_from_slice(last.as_bytes())?;
     Ok(script)
 }
 
 #[test]
 fn lines_names_and_their_number_have_limits(rt: HostRuntime) -> Result<(), Fail> {
-    // What stands before, a byte and how often it stands, what stands behind, and the refusal.
+    // What comes first, a byte and how often it comes, what comes last, and the refusal.
     let cases: [(&str, u8, usize, &str, &str); 10] = [
         ("#", b'x', 1023, "", ""),
         ("#", b'x', 1024, "", "script 1 TooLong\n"),
@@ -327,21 +332,21 @@ fn lines_names_and_their_number_have_limits(rt: HostRuntime) -> Result<(), Fail>
         ),
         ("", b'\n', 100_001, "", "script 100001 TooLong\n"),
     ];
-    for (front, byte, count, back, refusal) in cases {
-        let script = stretched(rt.alloc(), front, byte, count, back)?;
+    for (first, byte, count, last, refusal) in cases {
+        let script = stretched(rt.alloc(), first, byte, count, last)?;
         let (status, sink) = replayed(rt.alloc(), script.as_slice(), SMALLEST, SMALLEST)?;
         if refusal.is_empty() {
-            assert_eq!(rt; status, 0, "at {front} and {count}");
+            assert_eq!(rt; status, 0, "at {first} and {count}");
         } else {
-            assert_eq!(rt; status, 2, "at {front} and {count}");
-            assert_eq!(rt; sink.taken(), refusal.as_bytes(), "at {front} and {count}");
+            assert_eq!(rt; status, 2, "at {first} and {count}");
+            assert_eq!(rt; sink.taken(), refusal.as_bytes(), "at {first} and {count}");
         }
     }
     Ok(())
 }
 
 /// The same piece so many times.
-fn repeated(alloc: Global, piece: &[u8], count: usize) -> Result<Vec<u8>, AllocError> {
+pub fn repeated(alloc: Global, piece: &[u8], count: usize) -> Result<Vec<u8>, AllocError> {
     let mut bytes = Vec::new(alloc);
     for _ in 0..count {
         bytes.extend_from_slice(piece)?;
@@ -352,7 +357,7 @@ fn repeated(alloc: Global, piece: &[u8], count: usize) -> Result<Vec<u8>, AllocE
 #[test]
 fn runs_end_at_the_image_and_at_the_budget(rt: HostRuntime) -> Result<(), Fail> {
     let alloc = rt.alloc();
-    // How many MOVIqw R7, 0 stand before a RET, or without one, and the report.
+    // How many MOVIqw R7, 0 come before a RET, or without one, and the report.
     let cases: [(usize, &[u8], &str); 3] = [
         (
             128,
@@ -377,6 +382,19 @@ fn runs_end_at_the_image_and_at_the_budget(rt: HostRuntime) -> Result<(), Fail> 
         assert_eq!(rt; status, 0);
         assert_eq!(rt; sink.taken(), report.as_bytes(), "at {count}");
     }
+    Ok(())
+}
+
+#[test]
+fn a_script_of_100_000_commands_is_replayed(rt: HostRuntime) -> Result<(), Fail> {
+    let alloc = rt.alloc();
+    let script = repeated(alloc, b"load x\n", 100_000)?;
+    let report = repeated(alloc, b"> load x\n= NOT_FOUND 0\n", 100_000)?;
+    let mut shelf = shelf_of(alloc, script.as_slice(), SMALLEST, SMALLEST, &[])?;
+    let mut sink = MemSink::new(alloc, 2_300_000, 2_300_000, Vec::new(alloc))?;
+    let words = run_words(alloc, "s")?;
+    assert_eq!(rt; top(alloc, &words, &mut shelf, &mut sink), 0);
+    assert!(rt; sink.taken() == report.as_slice());
     Ok(())
 }
 
@@ -455,7 +473,7 @@ fn a_script_over_16_mib_is_too_long(rt: HostRuntime) -> Result<(), Fail> {
 }
 
 #[test]
-fn a_failing_sink_has_taken_a_front(rt: HostRuntime) -> Result<(), Fail> {
+fn a_failing_sink_has_taken_a_prefix(rt: HostRuntime) -> Result<(), Fail> {
     let alloc = rt.alloc();
     let words = run_words(alloc, "s")?;
     for write in 1..69u64 {
@@ -475,7 +493,7 @@ fn a_failing_sink_has_taken_a_front(rt: HostRuntime) -> Result<(), Fail> {
 }
 
 #[test]
-fn a_failing_shelf_cuts_before_a_load(rt: HostRuntime) -> Result<(), Fail> {
+fn a_failing_shelf_ends_the_text_before_a_load(rt: HostRuntime) -> Result<(), Fail> {
     let alloc = rt.alloc();
     let words = run_words(alloc, "s")?;
     // The read that fails, and how many bytes were written by then: whole texts of 67 bytes.

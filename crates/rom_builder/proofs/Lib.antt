@@ -1,7 +1,7 @@
-pub mod MadeLemmas
-pub mod MarkLemmas
-pub mod MadeHeaders
-pub mod MadeBlocks
-pub mod MadeAccepted
-pub mod LaidPlaces
-pub mod LaidMade
+pub mod SortedOnceLemmas
+pub mod PageLemmas
+pub mod SizeLemmas
+pub mod HeaderLemmas
+pub mod BlockLemmas
+pub mod AcceptanceLemmas
+pub mod LaidImageLemmas

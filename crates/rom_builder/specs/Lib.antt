@@ -1,3 +1,4 @@
+pub mod SortedOnce
 pub mod MadeImage
 pub mod LaidMadeImage
 pub mod RomParts

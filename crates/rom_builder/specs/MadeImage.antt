@@ -1,12 +1,16 @@
 -- The files that the image writer makes of a driver's code: PE32+ images for the machine EBC with headers
--- of 512 bytes, a section `.text` and, where there are relocations, a section `.reloc` (PE/COFF: File
--- Headers, Optional Header, Section Table, The .reloc Section).
-use Rattle.std.specs.Prelude.{◌≡◌, ℕ, ◌+◌, ◌-◌, ◌*◌, ◌/◌, ◌%◌, min, Bool, false, ◌||◌, not, slice_index_or, nat_eq, nat_lt, nat_le, List, [], ◌∷◌, ◌++◌, length, filter, take, drop, find, replicate, codes, Option, Some, None, Result, Ok, Err, if◌then◌else◌}
-use Rattle.std.specs.List.{list_any, flat_map, range_with_len}
+-- of 512 bytes, a section `.text` and, if there are relocations, a section `.reloc` (PE/COFF: File Headers,
+-- Optional Header, Section Table, The .reloc Section).
+use Rattle.std.specs.Prelude.{◌≡◌, ℕ, ◌+◌, ◌-◌, ◌*◌, ◌/◌, ◌%◌, Bool, ◌||◌, not, nat_eq, nat_lt, nat_le, List, [], ◌∷◌, ◌++◌, length, filter, map, find, replicate, codes, Option, Some, None, Result, Ok, Err, if◌then◌else◌}
+use Rattle.std.specs.List.{list_any, flat_map}
 use Rattle.std.specs.Option.{option_map}
 use Rattle.std.specs.declared.vec.Vec.{Vec}
 use Rattle.std.specs.declared.alloc.Global.{Global}
 use Rattle.byteorder.specs.Endian.{little_bytes}
+use Rattle.fw_types.specs.Layout.{Field, plain_bytes, put_all, uint16, uint32}
+use Rattle.fw_types.specs.declared.image.TheConstants.{BOOT_SERVICE_DRIVER, MACHINE_EBC, RUNTIME_DRIVER}
+use Rattle.fw_types.specs.declared.limits.TheConstants.{MOST_FILE_BYTES}
+use Rattle.rom_builder.specs.SortedOnce.{sorted_once}
 use Rattle.rom_builder.specs.declared.parts.DriverParts.{DriverParts}
 use Rattle.rom_builder.specs.declared.parts.BuildFault.{BuildFault}
 use Rattle.rom_builder.specs.declared.parts.BuildFault.TheVariants.{TooLong, BadEntry, BadReloc, BadSubsystem, OutOfMemory}
@@ -15,127 +19,101 @@ use Rattle.rom_builder.specs.declared.parts.BuildFault.TheVariants.{TooLong, Bad
 abbrev pub aligned : ℕ → ℕ
 aligned size = (size + 511) / 512 * 512
 
--- numbers of 2 and of 4 bytes, the lowest byte first
-abbrev pub word : ℕ → List ℕ
-word number = little_bytes 2 number
+-- ---- relocations (PE/COFF: Base Relocation Block, Base Relocation Types)
 
-abbrev pub long : ℕ → List ℕ
-long number = little_bytes 4 number
+-- the places of the image at which 8 bytes are relocated; the code begins at 512
+abbrev pub places_of : DriverParts → List ℕ
+places_of parts = sorted_once (map (λ offset. 512 + offset) parts.relocs)
 
--- ---- relocations (PE/COFF: Base Relocation Block). The code begins at 512 of the image.
+-- the page of a place
+abbrev pub page_of : ℕ → ℕ
+page_of place = place / 4096
 
--- whether the 8 bytes at a place of the image are relocated
-abbrev pub is_relocated : List ℕ → ℕ → Bool
-is_relocated relocs place = list_any (λ offset. nat_eq (512 + offset) place) relocs
+-- the pages that have one of these places
+abbrev pub pages_of : List ℕ → List ℕ
+pages_of places = sorted_once (map page_of places)
 
--- the offsets in a page of the places that are relocated, in order and once each; the page has 4,096
--- places, or those up to the code's end (a relocation past that has no entry, and no image is made of it)
-unfoldable pub offsets_in_page : DriverParts → ℕ → List ℕ
-offsets_in_page parts page =
-    filter (λ offset. is_relocated parts.relocs (4096 * page + offset))
-    (range_with_len 0 (min 4096 (512 + length parts.code - 4096 * page)))
+-- the places of a page
+abbrev pub places_in : ℕ → List ℕ → List ℕ
+places_in page places = filter (λ place. nat_eq (page_of place) page) places
 
--- the places that are marked in a row of marks
-abbrev pub marked : List Bool → List ℕ
-marked marks = filter (λ place. slice_index_or marks place false) (range_with_len 0 (length marks))
-
--- an entry of type 10 for each offset
+-- an entry for each place: type 10 in bits 15 to 12, and the offset in the page in bits 11 to 0
 abbrev pub entry_bytes : List ℕ → List ℕ
-entry_bytes offsets = flat_map (λ offset. word (0xA000 + offset)) offsets
+entry_bytes places = flat_map (λ place. little_bytes 2 (0xA000 + place % 4096)) places
 
--- and one of type 0 where their number is odd, so that each block begins at a multiple of 4 bytes
+-- and one of type 0 if their number is odd, so that each block begins at a multiple of 4 bytes
 abbrev pub padded_entries : List ℕ → List ℕ
-padded_entries entries = entries ++ (if nat_eq (length entries % 4) 0 then [] else word 0)
+padded_entries entries = entries ++ (if nat_eq (length entries % 4) 0 then [] else little_bytes 2 0)
 
--- the block of a page with such entries: none where there is none
+-- the block of a page with these entries: the address of the page, the size of the block, and the entries
 abbrev pub block_with : ℕ → List ℕ → List ℕ
-block_with page entries =
-    if nat_eq (length entries) 0 then [] else long (4096 * page) ++ long (8 + length entries) ++ entries
+block_with page entries = little_bytes 4 (4096 * page) ++ little_bytes 4 (8 + length entries) ++ entries
 
-abbrev pub block_of_page : DriverParts → ℕ → List ℕ
-block_of_page parts page = block_with page (padded_entries (entry_bytes (offsets_in_page parts page)))
+-- the block of a page that has these places
+abbrev pub page_block : ℕ → List ℕ → List ℕ
+page_block page places = block_with page (padded_entries (entry_bytes places))
 
--- the pages that have a place of the code or of the headers in front of it
-abbrev pub page_count : DriverParts → ℕ
-page_count parts = (512 + length parts.code + 4095) / 4096
+-- a block for each page that has one of the places
+unfoldable pub page_blocks : List ℕ → List ℕ
+page_blocks places = flat_map (λ page. page_block page (places_in page places)) (pages_of places)
 
-unfoldable pub relocation_blocks : DriverParts → List ℕ
-relocation_blocks parts = flat_map (block_of_page parts) (range_with_len 0 (page_count parts))
-
--- the same from marks, which say of each place from the image's start on whether it is relocated
-abbrev pub block_of_marks : List Bool → ℕ → List ℕ
-block_of_marks marks page = block_with page (padded_entries (entry_bytes (marked (take 4096 (drop (4096 * page) marks)))))
-
-abbrev pub blocks_of_marks : List Bool → List ℕ
-blocks_of_marks marks = flat_map (block_of_marks marks) (range_with_len 0 ((length marks + 4095) / 4096))
+abbrev pub relocation_blocks : DriverParts → List ℕ
+relocation_blocks parts = page_blocks (places_of parts)
 
 -- ---- headers
 
--- a field of the headers: where it stands, and its bytes
-abbrev pub Field : Type 0
-Field = ℕ × List ℕ
-
--- the DOS and the COFF header: both signatures, the PE header's place, the machine EBC, the number of
--- sections, an optional header of 160 bytes, and the characteristics of an image that keeps its relocations
+-- the DOS and the COFF file header; bits 1 to 3 of the characteristics say that the image can be run, and
+-- that it has no line numbers and no local symbols
 abbrev pub file_fields : ℕ → List Field
 file_fields sections =
-    (0x00, codes "MZ")
-    ∷ (0x3C, long 0x40)
-    ∷ (0x40, codes "PE")
-    ∷ (0x44, word 0x0EBC)
-    ∷ (0x46, word sections)
-    ∷ (0x54, word 160)
-    ∷ (0x56, word 0x000E)
+    plain_bytes 0x00 (codes "e_magic") (codes "MZ")
+    ∷ uint32 0x3C (codes "e_lfanew") 0x40
+    ∷ plain_bytes 0x40 (codes "Signature") (codes "PE")
+    ∷ uint16 0x44 (codes "Machine") MACHINE_EBC
+    ∷ uint16 0x46 (codes "NumberOfSections") sections
+    ∷ uint16 0x54 (codes "SizeOfOptionalHeader") 160
+    ∷ uint16 0x56 (codes "Characteristics") 0x000E
     ∷ []
 
--- the optional header at 0x58: magic, entry, section and file alignment, size of image, size of headers,
--- subsystem, and the number of data directories
+-- the optional header at 0x58, up to the data directories
 abbrev pub optional_fields : ℕ → ℕ → ℕ → List Field
 optional_fields entry size_of_image subsystem =
-    (0x58, word 0x020B)
-    ∷ (0x68, long (512 + entry))
-    ∷ (0x78, long 512)
-    ∷ (0x7C, long 512)
-    ∷ (0x90, long size_of_image)
-    ∷ (0x94, long 512)
-    ∷ (0x9C, word subsystem)
-    ∷ (0xC4, long 6)
+    uint16 0x58 (codes "Magic") 0x020B
+    ∷ uint32 0x68 (codes "AddressOfEntryPoint") (512 + entry)
+    ∷ uint32 0x78 (codes "SectionAlignment") 512
+    ∷ uint32 0x7C (codes "FileAlignment") 512
+    ∷ uint32 0x90 (codes "SizeOfImage") size_of_image
+    ∷ uint32 0x94 (codes "SizeOfHeaders") 512
+    ∷ uint16 0x9C (codes "Subsystem") subsystem
+    ∷ uint32 0xC4 (codes "NumberOfRvaAndSizes") 6
     ∷ []
 
--- the header at 0xF8 of the section that has the code: name, virtual size, address, raw size, file offset
+-- the header of the section that has the code, at 0xF8
 abbrev pub code_fields : ℕ → List Field
 code_fields size =
-    (0xF8, codes ".text")
-    ∷ (0x100, long size)
-    ∷ (0x104, long 512)
-    ∷ (0x108, long (aligned size))
-    ∷ (0x10C, long 512)
+    plain_bytes 0xF8 (codes "Name") (codes ".text")
+    ∷ uint32 0x100 (codes "VirtualSize") size
+    ∷ uint32 0x104 (codes "VirtualAddress") 512
+    ∷ uint32 0x108 (codes "SizeOfRawData") (aligned size)
+    ∷ uint32 0x10C (codes "PointerToRawData") 512
     ∷ []
 
--- where there are relocations: the relocation directory, which is the section at a place, and its header
--- at 0x120
+-- if there are relocations: the data directory of the relocations, which is the section at a place, and the
+-- header of that section at 0x120
 abbrev pub relocation_fields : ℕ → ℕ → List Field
 relocation_fields place size =
-    (0xF0, long place)
-    ∷ (0xF4, long size)
-    ∷ (0x120, codes ".reloc")
-    ∷ (0x128, long size)
-    ∷ (0x12C, long place)
-    ∷ (0x130, long (aligned size))
-    ∷ (0x134, long place)
+    uint32 0xF0 (codes "Base Relocation Table: VirtualAddress") place
+    ∷ uint32 0xF4 (codes "Base Relocation Table: Size") size
+    ∷ plain_bytes 0x120 (codes "Name") (codes ".reloc")
+    ∷ uint32 0x128 (codes "VirtualSize") size
+    ∷ uint32 0x12C (codes "VirtualAddress") place
+    ∷ uint32 0x130 (codes "SizeOfRawData") (aligned size)
+    ∷ uint32 0x134 (codes "PointerToRawData") place
     ∷ []
 
--- bytes with a field put in its place
-unfoldable pub put : Field → List ℕ → List ℕ
-put field bytes = take field.0 bytes ++ field.1 ++ drop (field.0 + length field.1) bytes
-
-abbrev pub put_all : List Field → List ℕ → List ℕ
-put_all [] bytes = bytes
-put_all (field ∷ fields) bytes = put_all fields (put field bytes)
-
--- the headers of an image of so many bytes of code and of relocations: zeros but for the fields
-unfoldable pub headers_of : ℕ → ℕ → ℕ → ℕ → List ℕ
-headers_of entry subsystem size relocations =
+-- the headers of an image of so many bytes of code and of relocations: zeros except for the fields
+unfoldable pub header_bytes : ℕ → ℕ → ℕ → ℕ → List ℕ
+header_bytes entry subsystem size relocations =
     let place = 512 + aligned size in
     let sections = if nat_eq relocations 0 then 1 else 2 in
     put_all (if nat_eq relocations 0 then [] else relocation_fields place relocations)
@@ -146,34 +124,35 @@ headers_of entry subsystem size relocations =
 -- ---- the file
 
 -- bytes, and zeros up to the file alignment
-abbrev pub padded : List ℕ → List ℕ
-padded bytes = bytes ++ replicate (aligned (length bytes) - length bytes) 0
+abbrev pub padded_bytes : List ℕ → List ℕ
+padded_bytes bytes = bytes ++ replicate (aligned (length bytes) - length bytes) 0
 
 -- the headers, the code and the relocations
 unfoldable pub made_image : DriverParts → List ℕ
 made_image parts =
-    headers_of parts.entry parts.subsystem (length parts.code) (length (relocation_blocks parts))
-    ++ padded parts.code
-    ++ padded (relocation_blocks parts)
+    header_bytes parts.entry parts.subsystem (length parts.code) (length (relocation_blocks parts))
+    ++ padded_bytes parts.code
+    ++ padded_bytes (relocation_blocks parts)
 
 -- ---- refusals, in their order
 
--- the longest file, 16 MiB
-abbrev pub longest : ℕ
-longest = 16777216
-
+-- the file with all relocations, wherever they are, has more bytes than a file may have
 unfoldable pub is_too_long : DriverParts → Bool
-is_too_long parts = nat_lt longest (length (made_image parts))
+is_too_long parts = nat_lt MOST_FILE_BYTES (length (made_image parts))
 
+-- the entry is odd, or not in the code
 unfoldable pub has_bad_entry : DriverParts → Bool
 has_bad_entry parts = nat_eq (parts.entry % 2) 1 || nat_le (length parts.code) parts.entry
 
+-- the 8 bytes at a relocation do not lie in the code
 unfoldable pub has_bad_reloc : DriverParts → Bool
 has_bad_reloc parts = list_any (λ offset. nat_lt (length parts.code) (offset + 8)) parts.relocs
 
+-- the subsystem is not that of a driver
 unfoldable pub has_bad_subsystem : DriverParts → Bool
-has_bad_subsystem parts = not (nat_eq parts.subsystem 11 || nat_eq parts.subsystem 12)
+has_bad_subsystem parts = not (nat_eq parts.subsystem BOOT_SERVICE_DRIVER || nat_eq parts.subsystem RUNTIME_DRIVER)
 
+-- the rules: a test that parts must not pass, and the refusal if they do
 abbrev pub rules : List ((DriverParts → Bool) × BuildFault)
 rules =
     (is_too_long, TooLong)

@@ -1,18 +1,20 @@
 //! The headers of a made image (PE/COFF: File Headers, Optional Header, Section Table).
-ghost use Rattle.std.specs.Prelude.{◌≡◌, ◌+◌, ◌≤◌, ◌<◌, ◌^◌, length, nat_eq, [], if◌then◌else◌};
-ghost use Rattle.byteorder.specs.Endian.{little_bytes};
-ghost use Rattle.rom_builder.specs.MadeImage.{aligned, code_fields, file_fields, headers_of, optional_fields, put, put_all, relocation_fields};
+ghost use Rattle.std.specs.Prelude.{◌≡◌, ◌+◌, ◌≤◌, ◌^◌, length, nat_eq, [], if◌then◌else◌};
+ghost use Rattle.fw_types.specs.Layout.{put_all};
+ghost use Rattle.rom_builder.specs.MadeImage.{aligned, code_fields, file_fields, header_bytes, optional_fields, relocation_fields};
+
+use fw_types::{MACHINE_EBC, put_bytes, put_u16, put_u32};
 
 /// How many bytes the headers have, which is where the code begins.
 pub const HEADERS: usize = 512;
 
 /// The headers of an image with `size` bytes of code and `relocations` bytes of relocation blocks.
-#[tactic(auto, unfolding(crate::specs::MadeImage::headers_of))]
-pub fn headers_of(entry: u32, subsystem: u16, size: u32, relocations: u32) -> [u8; 512]
-    requires entered { entry ≤ 2 ^ 24 }
-    requires sized { size ≤ 2 ^ 24 }
+#[tactic(auto, unfolding(crate::specs::MadeImage::header_bytes))]
+pub fn header_bytes(entry: u32, subsystem: u16, size: u32, relocations: u32) -> [u8; 512]
+    requires entry { entry ≤ 2 ^ 24 }
+    requires size { size ≤ 2 ^ 24 }
     requires few { relocations ≤ 2 ^ 24 }
-    ensures { result ≡ headers_of entry subsystem size relocations }
+    ensures { result ≡ header_bytes entry subsystem size relocations }
 {
     let place = 512 + aligned_size(size);
     let mut header = [0; 512];
@@ -36,6 +38,7 @@ pub fn aligned(size: usize) -> usize
     (size + 511) / 512 * 512
 }
 
+/// The same for the length of a section.
 fn aligned_size(size: u32) -> u32
     requires { size ≤ 2 ^ 24 }
     ensures { result ≡ aligned size }
@@ -50,88 +53,72 @@ fn section_count(relocations: u32) -> u16
     if relocations == 0 { 1 } else { 2 }
 }
 
+/// Puts the DOS header and the COFF file header.
 fn put_file_fields(header: &mut [u8], sections: u16)
     requires { length header.old ≡ 512 }
     ensures { header.new ≡ put_all (file_fields sections) header.old }
 {
     put_bytes(header, 0x00, b"MZ");
-    put_long(header, 0x3C, 0x40);
+    put_u32(header, 0x3C, 0x40);
     put_bytes(header, 0x40, b"PE");
-    put_word(header, 0x44, 0x0EBC);
-    put_word(header, 0x46, sections);
-    put_word(header, 0x54, 160);
-    put_word(header, 0x56, 0x000E);
+    put_u16(header, 0x44, MACHINE_EBC);
+    put_u16(header, 0x46, sections);
+    put_u16(header, 0x54, 160);
+    put_u16(header, 0x56, 0x000E);
 }
 
+/// Puts the optional header.
 fn put_optional_fields(header: &mut [u8], entry: u32, size_of_image: u32, subsystem: u16)
     requires room { length header.old ≡ 512 }
-    requires entered { entry ≤ 2 ^ 24 }
+    requires entry { entry ≤ 2 ^ 24 }
     ensures { header.new ≡ put_all (optional_fields entry size_of_image subsystem) header.old }
 {
-    put_word(header, 0x58, 0x020B);
-    put_long(header, 0x68, 512 + entry);
-    put_long(header, 0x78, 512);
-    put_long(header, 0x7C, 512);
-    put_long(header, 0x90, size_of_image);
-    put_long(header, 0x94, 512);
-    put_word(header, 0x9C, subsystem);
-    put_long(header, 0xC4, 6);
+    put_u16(header, 0x58, 0x020B);
+    put_u32(header, 0x68, 512 + entry);
+    put_u32(header, 0x78, 512);
+    put_u32(header, 0x7C, 512);
+    put_u32(header, 0x90, size_of_image);
+    put_u32(header, 0x94, 512);
+    put_u16(header, 0x9C, subsystem);
+    put_u32(header, 0xC4, 6);
 }
 
+/// Puts the header of the section that has the code.
 fn put_code_fields(header: &mut [u8], size: u32)
     requires room { length header.old ≡ 512 }
-    requires sized { size ≤ 2 ^ 24 }
+    requires size { size ≤ 2 ^ 24 }
     ensures { header.new ≡ put_all (code_fields size) header.old }
 {
     put_bytes(header, 0xF8, b".text");
-    put_long(header, 0x100, size);
-    put_long(header, 0x104, 512);
-    put_long(header, 0x108, aligned_size(size));
-    put_long(header, 0x10C, 512);
+    put_u32(header, 0x100, size);
+    put_u32(header, 0x104, 512);
+    put_u32(header, 0x108, aligned_size(size));
+    put_u32(header, 0x10C, 512);
 }
 
+/// Puts what the headers say of relocations, if there are any.
 fn put_relocation_fields(header: &mut [u8], place: u32, size: u32)
     requires room { length header.old ≡ 512 }
-    requires sized { size ≤ 2 ^ 24 }
-    ensures { header.new ≡ put_all (if nat_eq size 0 then [] else relocation_fields place size) header.old }
+    requires size { size ≤ 2 ^ 24 }
+    ensures { let fields = if nat_eq size 0 then [] else relocation_fields place size in
+        header.new ≡ put_all fields header.old }
 {
     if size != 0 {
         put_relocation_section(header, place, size);
     }
 }
 
+/// Puts the data directory of the relocations, and the header of their section.
 fn put_relocation_section(header: &mut [u8], place: u32, size: u32)
     requires room { length header.old ≡ 512 }
-    requires sized { size ≤ 2 ^ 24 }
+    requires size { size ≤ 2 ^ 24 }
     ensures { header.new ≡ put_all (relocation_fields place size) header.old }
 {
-    put_long(header, 0xF0, place);
-    put_long(header, 0xF4, size);
+    put_u32(header, 0xF0, place);
+    put_u32(header, 0xF4, size);
     put_bytes(header, 0x120, b".reloc");
-    put_long(header, 0x128, size);
-    put_long(header, 0x12C, place);
-    put_long(header, 0x130, aligned_size(size));
-    put_long(header, 0x134, place);
-}
-
-fn put_word(header: &mut [u8], at: usize, value: u16)
-    requires { at + 2 ≤ length header.old }
-    ensures { header.new ≡ put (at, little_bytes 2 value) header.old }
-{
-    put_bytes(header, at, &value.to_le_bytes());
-}
-
-fn put_long(header: &mut [u8], at: usize, value: u32)
-    requires { at + 4 ≤ length header.old }
-    ensures { header.new ≡ put (at, little_bytes 4 value) header.old }
-{
-    put_bytes(header, at, &value.to_le_bytes());
-}
-
-#[tactic(auto, unfolding(crate::specs::MadeImage::put))]
-fn put_bytes(header: &mut [u8], at: usize, bytes: &[u8])
-    requires { at + length bytes.now ≤ length header.old }
-    ensures { header.new ≡ put (at, bytes.now) header.old }
-{
-    header[at..at + bytes.len()].copy_from_slice(bytes);
+    put_u32(header, 0x128, size);
+    put_u32(header, 0x12C, place);
+    put_u32(header, 0x130, aligned_size(size));
+    put_u32(header, 0x134, place);
 }

@@ -1,34 +1,31 @@
+//! The whole file of an image.
 ghost use Rattle.std.specs.Prelude.{◌≡◌, ◌≤◌, ◌<◌, ◌+◌, ◌^◌, None, IfOk, OnOk, length, ◌++◌};
 ghost use Rattle.pe_image.specs.ImageRules.{refusal_of};
-ghost use Rattle.rom_builder.specs.MadeImage.{fault_of, Gives, has_bad_entry, has_bad_reloc, has_bad_subsystem, headers_of, is_too_long, made_image, padded, relocation_blocks};
+ghost use Rattle.rom_builder.specs.MadeImage.{fault_of, Gives, has_bad_entry, has_bad_reloc, has_bad_subsystem, header_bytes, is_too_long, made_image, padded_bytes, relocation_blocks};
 
-use crate::headers::{HEADERS, aligned, headers_of};
+use crate::headers::{HEADERS, aligned, header_bytes};
 use crate::parts::{BuildFault, DriverParts};
 use crate::relocations::relocation_blocks;
-use fw_types::OutOfMemory;
+use fw_types::{BOOT_SERVICE_DRIVER, MOST_FILE_BYTES, OutOfMemory, RUNTIME_DRIVER};
 use std::alloc::Global;
 
-/// EFI boot service driver (PE/COFF: Windows Subsystem).
-const BOOT_SERVICE_DRIVER: u16 = 11;
+/// The most bytes of a file, 16 MiB.
+const LONGEST: usize = MOST_FILE_BYTES as usize;
 
-/// EFI runtime driver (PE/COFF: Windows Subsystem).
-const RUNTIME_DRIVER: u16 = 12;
-
-/// The longest file, 16 MiB.
-const LONGEST: usize = 0x0100_0000;
-
-/// The file of a driver: a PE32+ image for the machine EBC that `pe_image` accepts, with headers of 512
-/// bytes, a section `.text` of the code and, where there are relocations, a section `.reloc` (PE/COFF).
+/// The file of a driver: a PE32+ image for the machine EBC that `pe_image` accepts, with headers of
+/// 512 bytes, a section `.text` of the code and, if there are relocations, a section `.reloc`
+/// (PE/COFF: File Headers, Optional Header, Section Table, The .reloc Section).
 ///
 /// # Errors
 ///
 /// The first of these that applies:
 ///
-/// 1. `TooLong`: the file would have more than 16,777,216 bytes.
+/// 1. `TooLong`: the file with all relocations, wherever they are, would have more than 16,777,216
+///    bytes.
 /// 2. `BadEntry`: the entry is odd, or not below the length of the code.
-/// 3. `BadReloc`: a relocation plus 8 passes the length of the code.
+/// 3. `BadReloc`: the 8 bytes at a relocation do not lie in the code.
 /// 4. `BadSubsystem`: the subsystem is neither 11 nor 12.
-/// 5. `OutOfMemory`: there is no memory for the file; it may come in place of another.
+/// 5. `OutOfMemory`: there is no memory for the file. It may come in place of another error.
 pub fn pe_of(alloc: Global, p: &DriverParts) -> Result<Vec<u8>, BuildFault>
     ensures answer { Gives result p.now }
     ensures accepted { IfOk result (λ file. refusal_of file.items ≡ None) }
@@ -47,7 +44,7 @@ pub fn pe_of(alloc: Global, p: &DriverParts) -> Result<Vec<u8>, BuildFault>
 #[tactic(auto, unfolding(crate::specs::MadeImage::fault_of))]
 fn fault_of(p: &DriverParts, blocks: &[u8]) -> Option<BuildFault>
     requires blocks { blocks.now ≡ relocation_blocks p.now }
-    requires sized { length p.now.code ≤ 2 ^ 24 }
+    requires size { length p.now.code ≤ 2 ^ 24 }
     ensures { result ≡ fault_of p.now }
 {
     if is_too_long(p, blocks) {
@@ -66,10 +63,10 @@ fn fault_of(p: &DriverParts, blocks: &[u8]) -> Option<BuildFault>
 }
 
 /// Whether the file would have more than 16 MiB.
-#[tactic(auto, using(crate::proofs::MadeLemmas::made_image_size), unfolding(crate::specs::MadeImage::is_too_long))]
+#[tactic(auto, using(crate::proofs::SizeLemmas::made_image_size), unfolding(crate::specs::MadeImage::is_too_long))]
 fn is_too_long(p: &DriverParts, blocks: &[u8]) -> bool
     requires blocks { blocks.now ≡ relocation_blocks p.now }
-    requires sized { length p.now.code ≤ 2 ^ 24 }
+    requires size { length p.now.code ≤ 2 ^ 24 }
     ensures { result ≡ is_too_long p.now }
 {
     blocks.len() > LONGEST
@@ -96,7 +93,7 @@ fn has_bad_reloc(p: &DriverParts) -> bool
         .any(|offset| size < *offset as usize + 8)
 }
 
-/// Whether the subsystem is none of a driver.
+/// Whether the subsystem is not that of a driver.
 #[tactic(auto, unfolding(crate::specs::MadeImage::has_bad_subsystem))]
 fn has_bad_subsystem(p: &DriverParts) -> bool
     ensures { result ≡ has_bad_subsystem p.now }
@@ -108,13 +105,13 @@ fn has_bad_subsystem(p: &DriverParts) -> bool
 #[tactic(auto, unfolding(crate::specs::MadeImage::made_image))]
 fn made_image(alloc: Global, p: &DriverParts, blocks: &[u8]) -> Result<Vec<u8>, OutOfMemory>
     requires blocks { blocks.now ≡ relocation_blocks p.now }
-    requires entered { p.now.entry ≤ 2 ^ 24 }
-    requires sized { length p.now.code ≤ 2 ^ 24 }
+    requires entry { p.now.entry ≤ 2 ^ 24 }
+    requires size { length p.now.code ≤ 2 ^ 24 }
     requires few { length blocks.now ≤ 2 ^ 24 }
     ensures { IfOk result (λ file. file.items ≡ made_image p.now) }
 {
     let code = p.code.as_slice();
-    let headers = headers_of(p.entry, p.subsystem, code.len() as u32, blocks.len() as u32);
+    let headers = header_bytes(p.entry, p.subsystem, code.len() as u32, blocks.len() as u32);
     let mut file = Vec::new(alloc);
     file.extend_from_slice(&headers)?;
     push_padded(&mut file, code)?;
@@ -125,7 +122,7 @@ fn made_image(alloc: Global, p: &DriverParts, blocks: &[u8]) -> Result<Vec<u8>, 
 /// Adds bytes, and zeros up to the file alignment.
 fn push_padded(file: &mut Vec<u8>, bytes: &[u8]) -> Result<(), OutOfMemory>
     requires { length bytes.now ≤ 2 ^ 24 }
-    ensures { OnOk result (file.new.items ≡ file.old.items ++ padded bytes.now) }
+    ensures { OnOk result (file.new.items ≡ file.old.items ++ padded_bytes bytes.now) }
 {
     file.extend_from_slice(bytes)?;
     let end = file.len() + (aligned(bytes.len()) - bytes.len());

@@ -7,8 +7,8 @@ use std::test::Fail;
 /// A byte at a place.
 type Change = (usize, u8);
 
-/// The bytes that are not 0 of the image of the code 77 37 00 00 04 00 (`MOVIqw R7, 0` and `RET`): headers of
-/// 512 bytes, then the code and zeros up to 1,024.
+/// The bytes that are not 0 of the image of the code 77 37 00 00 04 00 (`MOVIqw R7, 0` and `RET`):
+/// headers of 512 bytes, then the code and zeros up to 1,024.
 const SMALLEST: [Change; 31] = [
     (0x00, 0x4D),
     (0x01, 0x5A),
@@ -43,8 +43,8 @@ const SMALLEST: [Change; 31] = [
     (0x204, 0x04),
 ];
 
-/// What the image of 16 bytes of code, with the number 0x210 in the last 8 and a relocation there, has in
-/// other places than the smallest, or otherwise.
+/// What the image of 16 bytes of code, with the number 0x210 in the last 8 and a relocation there,
+/// has in other places than the smallest, or otherwise.
 const WITH_RELOCATION: [Change; 25] = [
     (0x46, 0x02),
     (0x91, 0x06),
@@ -203,6 +203,15 @@ fn at_most_16_mib(rt: HostRuntime) -> Result<(), Fail> {
     assert_eq!(rt;
         fault_of(rt.alloc(), most, 1, &[0], 10)?,
         Some(BuildFault::TooLong)
+    );
+    // an offset outside the code counts in the length, and is refused if the file fits
+    assert_eq!(rt;
+        fault_of(rt.alloc(), most, 0, &[0xFFFF_FFFF], 11)?,
+        Some(BuildFault::TooLong)
+    );
+    assert_eq!(rt;
+        fault_of(rt.alloc(), less, 0, &[0xFFFF_FFFF], 11)?,
+        Some(BuildFault::BadReloc)
     );
     Ok(())
 }

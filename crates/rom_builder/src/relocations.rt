@@ -1,8 +1,9 @@
 //! The relocation directory: a block for each page that has a relocation (PE/COFF: Base Relocation
-//! Block).
-ghost use Rattle.std.specs.Prelude.{◌≡◌, ◌≤◌, ◌<◌, ◌+◌, ◌*◌, ◌^◌, ◌++◌, false, true, IfOk, OnOk, length, map, take, drop, replicate, slice_set, nat_eq, [], if◌then◌else◌};
-ghost use Rattle.std.specs.List.{range_with_len};
-ghost use Rattle.rom_builder.specs.MadeImage.{block_of_marks, blocks_of_marks, entry_bytes, is_relocated, long, marked, padded_entries, relocation_blocks};
+//! Block, Base Relocation Types).
+ghost use Rattle.std.specs.Prelude.{◌≡◌, ◌≤◌, ◌<◌, ◌+◌, ◌/◌, ◌^◌, IfOk, OnOk, length, map, nat_eq};
+ghost use Rattle.std.specs.List.{take_while};
+ghost use Rattle.rom_builder.specs.MadeImage.{page_block, block_with, page_blocks, entry_bytes, padded_entries, places_of, relocation_blocks};
+ghost use Rattle.rom_builder.specs.SortedOnce.{RiseFrom};
 
 use crate::parts::DriverParts;
 use fw_types::OutOfMemory;
@@ -11,142 +12,104 @@ use std::alloc::Global;
 /// Where the code begins in the image.
 const CODE: usize = 512;
 
-/// How many bytes a page has.
+/// How many places a page has.
 const PAGE: usize = 4096;
 
-/// The type of an entry for 8 bytes that hold an address, in its bits (PE/COFF: Base Relocation Types).
+/// The type of an entry for 8 bytes that hold an address, in its bits (PE/COFF: Base Relocation
+/// Types).
 const DIR_64: u16 = 0xA000;
 
 /// The blocks of the relocation directory.
 pub fn relocation_blocks(alloc: Global, parts: &DriverParts) -> Result<Vec<u8>, OutOfMemory>
-    requires { length parts.now.code ≤ 2 ^ 24 }
     ensures { IfOk result (λ blocks. blocks.items ≡ relocation_blocks parts.now) }
 {
-    let marks = marks_of(alloc, parts)?;
-    blocks_of(alloc, marks.as_slice())
+    let places = places_of(alloc, parts)?;
+    page_blocks(alloc, places.as_slice())
 }
 
-/// The blocks of all pages of which the marks are given.
-fn blocks_of(alloc: Global, marks: &[bool]) -> Result<Vec<u8>, OutOfMemory>
-    requires { length marks.now ≤ 2 ^ 24 + 512 }
-    ensures { IfOk result (λ blocks. blocks.items ≡ blocks_of_marks marks.now) }
+/// The places of the image at which 8 bytes are relocated, in rising order and once each.
+fn places_of(alloc: Global, parts: &DriverParts) -> Result<Vec<usize>, OutOfMemory>
+    ensures places { IfOk result (λ places. places.items ≡ places_of parts.now) }
+    ensures rise { IfOk result (λ places. RiseFrom 0 places.items) }
+{
+    let mut places = all_places(alloc, parts.relocs.as_slice())?;
+    places.sort()?;
+    places.dedup();
+    Ok(places)
+}
+
+/// The place of the image that each offset in the code has.
+fn all_places(alloc: Global, relocs: &[u32]) -> Result<Vec<usize>, OutOfMemory>
+    ensures { IfOk result (λ places. places.items ≡ map (λ offset. 512 + offset) relocs.now) }
+{
+    let places = relocs
+        .iter()
+        .map(|offset| CODE + *offset as usize)
+        .collect(alloc)?;
+    Ok(places)
+}
+
+/// The blocks of places that rise, page by page.
+fn page_blocks(alloc: Global, places: &[usize]) -> Result<Vec<u8>, OutOfMemory>
+    requires { RiseFrom 0 places.now }
+    ensures { IfOk result (λ blocks. blocks.items ≡ page_blocks places.now) }
 {
     let mut blocks = Vec::new(alloc);
-    for page in 0..(marks.len() + PAGE - 1) / PAGE {
-        let block = block_of_page(alloc, marks, page)?;
+    let mut rest = places;
+    while !rest.is_empty() {
+        let page = rest[0] / PAGE;
+        let (here, others) = rest.split_at(count_in_page(rest, page));
+        let block = page_block(alloc, page, here)?;
         blocks.extend_from_slice(&block)?;
+        rest = others;
     }
     Ok(blocks)
 }
 
-/// For each place of the image up to the end of the code whether it is relocated.
-fn marks_of(alloc: Global, parts: &DriverParts) -> Result<Vec<bool>, OutOfMemory>
-    requires { length parts.now.code ≤ 2 ^ 24 }
-    ensures marks { IfOk result (λ marks. marks.items ≡ map (is_relocated parts.now.relocs) (range_with_len 0 (512 + length parts.now.code))) }
-    ensures size { IfOk result (λ marks. length marks.items ≡ 512 + length parts.now.code) }
+/// How many places at the front lie in a page.
+fn count_in_page(places: &[usize], page: usize) -> usize
+    ensures { result ≡ length (take_while (λ place. nat_eq (place / 4096) page) places.now) }
 {
-    let mut marks = vec![in alloc; false; CODE + parts.code.as_slice().len()]?;
-    mark_all(marks.as_mut_slice(), parts.relocs.as_slice());
-    Ok(marks)
+    places
+        .iter()
+        .take_while(|place| **place / PAGE == page)
+        .count()
 }
 
-/// Marks the place of each relocation.
-fn mark_all(marks: &mut [bool], relocs: &[u32])
-    requires { marks.old ≡ replicate (length marks.old) false }
-    ensures { marks.new ≡ map (is_relocated relocs.now) (range_with_len 0 (length marks.old)) }
+/// The block of a page that has these places.
+fn page_block(alloc: Global, page: usize, places: &[usize]) -> Result<Vec<u8>, OutOfMemory>
+    requires page { page < 2 ^ 52 }
+    requires few { length places.now ≤ 4096 }
+    ensures { IfOk result (λ block. block.items ≡ page_block page places.now) }
 {
-    for offset in relocs {
-        mark(marks, CODE + *offset as usize);
-    }
+    let mut entries = entry_bytes(alloc, places)?;
+    pad(&mut entries)?;
+    block_with(alloc, page, &entries)
 }
 
-/// Marks a place, where it is there.
-fn mark(marks: &mut [bool], place: usize)
-    ensures { marks.new ≡ slice_set marks.old place true }
+/// The block of a page with these entries.
+fn block_with(alloc: Global, page: usize, entries: &[u8]) -> Result<Vec<u8>, OutOfMemory>
+    requires page { page < 2 ^ 52 }
+    requires few { length entries.now ≤ 2 ^ 14 }
+    ensures { IfOk result (λ block. block.items ≡ block_with page entries.now) }
 {
-    if place < marks.len() {
-        marks[place] = true;
-    }
-}
-
-/// The block of a page.
-fn block_of_page(alloc: Global, marks: &[bool], page: usize) -> Result<Vec<u8>, OutOfMemory>
-    requires { page < 2 ^ 13 }
-    ensures { IfOk result (λ block. block.items ≡ block_of_marks marks.now page) }
-{
-    let entries = padded_entries(alloc, page_of(marks, page))?;
-    block_with(alloc, (PAGE * page) as u32, entries)
-}
-
-/// The block of a page with such entries; none where there is no entry.
-fn block_with(alloc: Global, page: u32, entries: Vec<u8>) -> Result<Vec<u8>, OutOfMemory>
-    requires { length entries.items ≤ 2 ^ 14 }
-    ensures { IfOk result (λ block. block.items ≡ (if nat_eq (length entries.items) 0 then [] else long page ++ long (8 + length entries.items) ++ entries.items)) }
-{
-    if entries.is_empty() {
-        return Ok(entries);
-    }
     let mut block = Vec::new(alloc);
-    block.extend_from_slice(&page.to_le_bytes())?;
+    block.extend_from_slice(&(PAGE * page).to_le_bytes()[..4])?;
     block.extend_from_slice(&(8 + entries.len() as u32).to_le_bytes())?;
-    block.extend_from_slice(&entries)?;
+    block.extend_from_slice(entries)?;
     Ok(block)
 }
 
-/// An entry for each place that is marked, and one of no meaning where their number is odd.
-fn padded_entries(alloc: Global, marks: &[bool]) -> Result<Vec<u8>, OutOfMemory>
-    requires { length marks.now ≤ 4096 }
-    ensures bytes { IfOk result (λ entries. entries.items ≡ padded_entries (entry_bytes (marked marks.now))) }
-    ensures few { IfOk result (λ entries. length entries.items ≤ 2 ^ 14) }
-{
-    let mut entries = entries_in(alloc, marks)?;
-    pad(&mut entries)?;
-    Ok(entries)
-}
-
-/// The marks of the places of a page.
-fn page_of(marks: &[bool], page: usize) -> &[bool]
-    requires { page < 2 ^ 13 }
-    ensures { result.now ≡ take 4096 (drop (4096 * page) marks.now) }
-{
-    front(behind(marks, PAGE * page), PAGE)
-}
-
-/// The marks from a place on; none where the place is past the end.
-fn behind(marks: &[bool], place: usize) -> &[bool]
-    ensures { result.now ≡ drop place marks.now }
-{
-    if place < marks.len() {
-        &marks[place..]
-    } else {
-        &[]
-    }
-}
-
-/// The first marks, as many as there are of so many.
-fn front(marks: &[bool], count: usize) -> &[bool]
-    ensures { result.now ≡ take count marks.now }
-{
-    if count < marks.len() {
-        &marks[..count]
-    } else {
-        marks
-    }
-}
-
-/// An entry for each place that is marked.
-
-fn entries_in(alloc: Global, marks: &[bool]) -> Result<Vec<u8>, OutOfMemory>
-    requires { length marks.now ≤ 4096 }
-    ensures bytes { IfOk result (λ entries. entries.items ≡ entry_bytes (marked marks.now)) }
+/// An entry for each place.
+fn entry_bytes(alloc: Global, places: &[usize]) -> Result<Vec<u8>, OutOfMemory>
+    requires { length places.now ≤ 4096 }
+    ensures bytes { IfOk result (λ entries. entries.items ≡ entry_bytes places.now) }
     ensures few { IfOk result (λ entries. length entries.items ≤ 2 ^ 13) }
 {
     let mut entries = Vec::new(alloc);
-    for (offset, is_marked) in marks.iter().enumerate() {
-        if !*is_marked {
-            continue;
-        }
-        entries.extend_from_slice(&(DIR_64 + offset as u16).to_le_bytes())?;
+    for place in places {
+        let offset = (*place % PAGE) as u16;
+        entries.extend_from_slice(&(DIR_64 + offset).to_le_bytes())?;
     }
     Ok(entries)
 }

@@ -1,3 +1,4 @@
+//! An option ROM of files.
 ghost use Rattle.std.specs.Prelude.{◌≡◌, IfOk};
 ghost use Rattle.std.specs.List.{list_any};
 ghost use Rattle.option_rom.specs.RomGrammar.{rom_in};
@@ -8,12 +9,14 @@ use fw_types::{OutOfMemory, Rows};
 use option_rom::{HIGHEST_CLASS, LONGEST_BODY, RomPart, RomWriteFault, write};
 use std::alloc::Global;
 
-/// An option ROM of EBC images for one device, whose bodies are these files, in their order.
+/// An option ROM of EBC images for one device, whose bodies are these files, in their order (PCI
+/// Firmware 3.2: PCI Expansion ROM Header Format).
 ///
 /// # Errors
 ///
-/// `Empty` where there is no file, `TooLong` where a file is longer than 33,553,856 bytes or the class code
-/// has more than 24 bits, `OutOfMemory` where there is no memory for the ROM.
+/// - `Empty`: there is no file.
+/// - `TooLong`: a file is longer than 33,553,856 bytes, or the class code has more than 24 bits.
+/// - `OutOfMemory`: there is no memory for the ROM.
 pub fn rom_of(
     alloc: Global,
     vendor: u16,
@@ -22,9 +25,11 @@ pub fn rom_of(
     files: &[Vec<u8>],
 ) -> Result<Vec<u8>, RomWriteFault>
     ensures refused { RefusesFor (fault_of (parts_of vendor device class files.now)) result }
-    ensures layout { IfOk result (λ rom. rom.items ≡ laid_rom (parts_of vendor device class files.now)) }
+    ensures layout { IfOk result (λ rom.
+        rom.items ≡ laid_rom (parts_of vendor device class files.now)) }
     // The walk over it gives the files again.
-    ensures reads_back { IfOk result (λ rom. rom_in rom.items ≡ rom_of_parts (parts_of vendor device class files.now)) }
+    ensures reads_back { IfOk result (λ rom.
+        rom_in rom.items ≡ rom_of_parts (parts_of vendor device class files.now)) }
 {
     if files.is_empty() {
         return Err(RomWriteFault::Empty);
@@ -36,6 +41,7 @@ pub fn rom_of(
     write(alloc, &parts)
 }
 
+/// Whether the fields of an image have no room for one of the files.
 fn is_any_too_long(vendor: u16, device: u16, class: u32, files: &[Vec<u8>]) -> bool
     ensures { result ≡ list_any (λ file. is_too_long (part_of vendor device class file)) files.now }
 {

@@ -1,28 +1,33 @@
--- What must hold of the state for a change to be made. A row says no other change.
-use Rattle.std.specs.Prelude.{◌≡◌, ℕ, Bool, true, false, ◌*◌, ◌&&◌, not, nat_eq, nat_le, is_some, List, length, Option, Some, None, Result, Ok}
+-- What must hold of the state for a change to be applied. A row ends with no other change.
+use Rattle.std.specs.Prelude.{◌≡◌, ◌≤◌, ℕ, Bool, true, false, ◌*◌, ◌&&◌, not, nat_eq, nat_le, nat_lt, is_ok, is_some, List, length, Option, Some, None, Result, Ok, Err, if◌then◌else◌}
 use Rattle.std.specs.List.{list_all, range_with_len}
 use Rattle.fw_types.specs.Attr.{is_legal}
-use Rattle.handle_db.specs.Database.{handles_with, interface_of, is_live}
+use Rattle.handle_db.specs.Database.{Database, handles_with, interface_of, is_live}
 use Rattle.open_records.specs.OpenRecords.{records_of}
 use Rattle.open_records.specs.Verdicts.{judge, may_enter}
 use Rattle.service_thunks.specs.declared.service.Service.{Service}
-use Rattle.service_thunks.specs.declared.service.Service.TheVariants.{InstallMultiple}
-use Rattle.guest_memory.specs.GuestMemory.{is_readable, is_writable_range, put_bytes}
+use Rattle.guest_memory.specs.GuestMemory.{is_readable, is_writable_range, number_of, put_bytes}
 use Rattle.guest_memory.specs.declared.segment.SegKind.TheVariants.{Pool}
 use Rattle.world_model.specs.World.{Soft, State}
 use Rattle.world_model.specs.Blocks.{block_added, is_block_full}
 use Rattle.world_model.specs.Interfaces.{firmware, is_lasting}
 use Rattle.world_model.specs.Kept.{IsKept}
 use Rattle.world_model.specs.Records.{is_none_or_live}
+use Rattle.service_thunks.specs.declared.service.Service.TheVariants.{InstallMultiple}
+use Rattle.service_thunks.specs.Arguments.{slot_at}
+use Rattle.service_model.specs.Words.{null}
 use Rattle.service_model.specs.BootServices.{row}
-use Rattle.service_model.specs.Many.{most_pairs}
-use Rattle.service_model.specs.Changes.{pair_at, pairs_installed}
+use Rattle.service_model.specs.Connecting.{connect_controller, has_handle}
+use Rattle.service_model.specs.Untouched.{goes_on}
+use Rattle.service_model.specs.Many.{all_fit, pair_interface}
+use Rattle.service_model.specs.Changes.{applied, pair_at, pairs_installed}
+use Rattle.service_model.specs.declared.numbers.TheConstants.{CONTEXT_SLOTS, MOST_PAIRS}
 use Rattle.service_model.specs.declared.call.Caller.{Caller}
 use Rattle.service_model.specs.declared.plan.Stop.{Stop}
 use Rattle.service_model.specs.declared.plan.Change.{Change}
-use Rattle.service_model.specs.declared.plan.Change.TheVariants.{Allot, Block, Close, Copy, Fill, Free, Handles, Install, InstallMany, Open, SetTpl, Store, Uninstall, Value}
+use Rattle.service_model.specs.declared.plan.Change.TheVariants.{Allot, Block, Close, Connect, Copy, Disconnect, Fill, Free, Handles, Install, InstallMany, Open, SetTpl, Store, Uninstall, Value}
 
--- whether a number can be stored, where a place is given for it
+-- whether a number can be stored, if a place is given for it
 abbrev pub can_store : Option ℕ → State → Bool
 can_store None w = true
 can_store (Some at) w = is_writable_range w.soft.memory at 8
@@ -32,18 +37,33 @@ abbrev pub is_of_image : Option (ℕ × ℕ) → Bool
 is_of_image None = false
 is_of_image (Some found) = not (nat_eq found.1 firmware)
 
--- whether an open can be entered: of an interface that is there, by an agent that is live, and for a
--- controller that is or for none, with an attribute, where nothing keeps it out
+-- whether an open can be recorded: of an interface that is there, by an agent that is live, for a
+-- controller that is live or for none, with a legal attribute, and kept out by no record
 abbrev pub can_enter : (handle : ℕ) → List ℕ → (agent controller attr : ℕ) → State → Bool
 can_enter handle name agent controller attr w =
     is_some (interface_of handle name w.soft.database)
     && (is_live agent w.soft.database
     && (is_none_or_live controller w.soft.database
     && (is_legal attr
-    && may_enter (judge (records_of w.soft.records.held handle name) agent controller attr))))
+    && may_enter (judge (records_of w.soft.records.entries handle name) agent controller attr))))
 
--- whether the bytes can be read that a change reads, and those be written that it writes; an interface
--- that goes is an image's; and an open can be entered
+-- whether a handle is live, if one is given
+abbrev pub live_if : Option ℕ → Database → Bool
+live_if None db = true
+live_if (Some handle) db = is_live handle db
+
+-- whether pairs can be installed: they are few, the handle is live, they fit it one after the other, and
+-- each interface can be read
+abbrev pub can_install : Option ℕ → (list count : ℕ) → State → Bool
+can_install handle list count w =
+    nat_le count MOST_PAIRS
+    && (live_if handle w.soft.database
+    && (is_ok (all_fit handle list count w)
+    && list_all (λ i. is_ok (pair_interface list i w)) (range_with_len 0 count)))
+
+-- Whether a change can be applied: the bytes that it reads can be read, and those that it writes be
+-- written; pairs can be installed; an interface that is removed is an image's; an open can be recorded; and
+-- each slot of a list of handles has one.
 abbrev pub is_allowed : Change → State → Bool
 is_allowed (Value value) w = true
 is_allowed (SetTpl tpl answer) w = true
@@ -53,7 +73,7 @@ is_allowed (Copy to from n) w = is_readable w.soft.memory from n && is_writable_
 is_allowed (Fill to n byte) w = is_writable_range w.soft.memory to n
 is_allowed (Store out value status) w = can_store out w
 is_allowed (Install handle name address owner out) w = is_writable_range w.soft.memory out 8
-is_allowed (InstallMany handle list count owner out) w = nat_le count most_pairs && is_writable_range w.soft.memory out 8
+is_allowed (InstallMany handle list count owner out) w = is_writable_range w.soft.memory out 8 && can_install handle list count w
 is_allowed (Uninstall handle name) w = is_of_image (interface_of handle name w.soft.database)
 is_allowed (Open handle name agent controller attr out address) w =
     can_store out w && can_enter handle name agent controller attr w
@@ -62,16 +82,11 @@ is_allowed (Handles name size buffer) w =
     is_writable_range w.soft.memory size 8 && is_writable_range w.soft.memory buffer (8 * length (handles_with name w.soft.database))
 is_allowed (Block contents buffer count count_first) w =
     is_writable_range w.soft.memory buffer 8 && is_writable_range w.soft.memory count 8
+is_allowed (Connect controller list count path at_end recursive) w =
+    nat_lt count CONTEXT_SLOTS && list_all (has_handle list w) (range_with_len 0 count)
+is_allowed (Disconnect controller driver child) w = true
 
--- whether a pair is there on a handle, with its interface and owner
-abbrev pub is_interface : Option (ℕ × ℕ) → (address owner : ℕ) → Bool
-is_interface None address owner = false
-is_interface (Some found) address owner = nat_eq found.0 address && nat_eq found.1 owner
-
-abbrev pub is_there : Option ℕ × State → Result (List ℕ × ℕ) Stop → (owner : ℕ) → Bool
-is_there (Some handle, w) (Ok (name, address)) owner = is_interface (interface_of handle name w.soft.database) address owner
-is_there (handle, w) pair owner = false
-
+-- a row ends with no change that cannot be applied
 abbrev pub RowsAreAllowed : Type 0
 RowsAreAllowed =
     (s : Service) (c : Caller) (a : List ℕ) (w : State) (change : Change) → (row s).rest c a w ≡ Ok change → is_allowed change w ≡ true
@@ -94,10 +109,63 @@ PuttingLeavesWritable =
     (soft : Soft) (bytes : List ℕ) (to at n : ℕ) → is_writable_range soft.memory at n ≡ true
     → is_writable_range (put_bytes soft.memory to bytes) at n ≡ true
 
--- Of the pairs that a row installs none is refused: each is there behind, on the one handle, with its
--- interface, and the image that calls owns it.
+-- ---- pairs
+
+-- whether an interface is there with an address and an owner
+abbrev pub is_interface : Option (ℕ × ℕ) → (address owner : ℕ) → Bool
+is_interface None address owner = false
+is_interface (Some found) address owner = nat_eq found.0 address && nat_eq found.1 owner
+
+-- whether a pair is there on a handle, with its interface and its owner
+abbrev pub is_there : Option ℕ × State → Result (List ℕ × ℕ) Stop → (owner : ℕ) → Bool
+is_there (Some handle, w) (Ok (name, address)) owner = is_interface (interface_of handle name w.soft.database) address owner
+is_there (handle, w) pair owner = false
+
+-- whether the first pairs of a list are there, after they were installed
+abbrev pub all_there : (list count owner : ℕ) → (before : State) → Result (Option ℕ × State) Stop → Bool
+all_there list count owner before (Ok end) = list_all (λ i. is_there end (pair_at list i before) owner) (range_with_len 0 count)
+all_there list count owner before (Err stop) = false
+
+-- None of the pairs that can be installed is refused: each is there afterwards, on the one handle, with its
+-- interface and the owner.
 abbrev pub PairsAreInstalled : Type 0
 PairsAreInstalled =
+    (w : State) (handle : Option ℕ) (list count owner k : ℕ) → IsKept w.soft → can_install handle list count w ≡ true → k ≤ count
+    → all_there list k owner w (pairs_installed k list owner handle w) ≡ true
+
+-- InstallMultipleProtocolInterfaces ends with pairs of which none is refused, and which the calling image
+-- owns.
+abbrev pub RowInstallsPairs : Type 0
+RowInstallsPairs =
     (c : Caller) (a : List ℕ) (w : State) (handle : Option ℕ) (list count owner out : ℕ) → IsKept w.soft
     → (row InstallMultiple).rest c a w ≡ Ok (InstallMany handle list count owner out)
-    → list_all (λ i. is_there (pairs_installed count list owner handle w) (pair_at list i w) c.image) (range_with_len 0 count) ≡ true
+    → all_there list count c.image w (pairs_installed count list owner handle w) ≡ true
+
+-- ---- ConnectController and DisconnectController
+
+-- ConnectController's row ends with no change that cannot be applied
+abbrev pub ConnectIsAllowed : Type 0
+ConnectIsAllowed =
+    (controller list path recursive : ℕ) (w : State) (change : Change) → connect_controller controller list path recursive w ≡ Ok change
+    → is_allowed change w ≡ true
+
+-- whether a number was read, and is 0
+abbrev pub is_zero : Option ℕ → Bool
+is_zero None = false
+is_zero (Some value) = nat_eq value 0
+
+-- its list of handles ends at a 0, unless it is NULL and has none
+abbrev pub ContextEndsAtZero : Type 0
+ContextEndsAtZero =
+    (controller list path recursive : ℕ) (w : State) (other at count way : ℕ) (at_end children : Bool)
+    → connect_controller controller list path recursive w ≡ Ok (Connect other at count way at_end children)
+    → (if null list then nat_eq count 0 else is_zero (number_of w.soft.memory (slot_at list count) 8)) ≡ true
+
+-- a service that goes on leaves the state as it is
+abbrev pub goes_again : Change → Bool
+goes_again (Connect controller list count path at_end recursive) = true
+goes_again (Disconnect controller driver child) = true
+goes_again _ = false
+
+abbrev pub ReentriesChangeNothing : Type 0
+ReentriesChangeNothing = (change : Change) (w : State) → goes_again change ≡ true → (goes_on (applied change w).0 ≡ true) × ((applied change w).1 ≡ w)

@@ -1,25 +1,23 @@
 -- The table of boot services (UEFI 2.8, 'EFI Boot Services Table'), and how a service goes. Prices are
 -- this project's own.
 use Rattle.std.specs.Prelude.{ℕ, ◌+◌, ◌-◌, ◌/◌, ◌%◌, ◌^◌, Bool, true, false, nat_lt, List, replicate, slice_index, Result, Ok, Err, if◌then◌else◌}
-use Rattle.fw_types.specs.declared.status.TheConstants.Status.{UNSUPPORTED}
+use Rattle.fw_types.specs.declared.limits.TheConstants.{MOST_BYTES}
 use Rattle.fw_types.specs.declared.event.Cause.TheVariants.{Budget}
-use Rattle.guest_memory.specs.GuestMemory.{most_bytes}
 use Rattle.service_thunks.specs.Arguments.{most_arguments}
 use Rattle.service_thunks.specs.declared.service.Service.{Service}
-use Rattle.service_thunks.specs.declared.service.Service.TheVariants.{RaiseTpl, RestoreTpl, AllocatePool, FreePool, Install, Uninstall, HandleProtocol, LocateHandle, Stall, OpenProtocol, CloseProtocol, OpenProtocolInformation, ProtocolsPerHandle, LocateHandleBuffer, LocateProtocol, InstallMultiple, CopyMem, SetMem, MemRead, MemWrite, PciRead, PciWrite, GetLocation, Attributes}
+use Rattle.service_thunks.specs.declared.service.Service.TheVariants.{RaiseTpl, RestoreTpl, AllocatePool, FreePool, Install, Uninstall, HandleProtocol, LocateHandle, Stall, ConnectController, DisconnectController, OpenProtocol, CloseProtocol, OpenProtocolInformation, ProtocolsPerHandle, LocateHandleBuffer, LocateProtocol, InstallMultiple, UninstallMultiple, CopyMem, SetMem, MemRead, MemWrite, PciRead, PciWrite, GetLocation, Attributes, Unbuilt}
 use Rattle.world_model.specs.World.{State, on_hard}
 use Rattle.world_model.specs.Units.{units_spent}
 use Rattle.service_model.specs.Words.{◌>>=◌, slots}
-use Rattle.service_model.specs.Rows.{allocate_pool, copy_mem, free_pool, raise_tpl, restore_tpl, set_mem, stall}
+use Rattle.service_model.specs.Rows.{allocate_pool, copy_mem, free_pool, raise_tpl, restore_tpl, set_mem, stall, unbuilt}
 use Rattle.service_model.specs.Protocols.{close, handle_protocol, install, locate_handle, locate_handle_buffer, locate_protocol, open_protocol, open_protocol_information, protocols_per_handle, uninstall}
 use Rattle.service_model.specs.Many.{first_pair, install_multiple}
-use Rattle.service_model.specs.Changes.{answered, committed}
+use Rattle.service_model.specs.Changes.{applied, stop_answered}
 use Rattle.service_model.specs.declared.call.Caller.{Caller}
 use Rattle.service_model.specs.declared.call.Served.{Served}
 use Rattle.service_model.specs.declared.call.Served.TheVariants.{Trap}
 use Rattle.service_model.specs.declared.plan.Change.{Change}
 use Rattle.service_model.specs.declared.plan.Stop.{Stop}
-use Rattle.service_model.specs.declared.plan.Stop.TheVariants as stop
 
 -- ---- the table
 
@@ -35,9 +33,13 @@ pub record Row : Type 0 where
 abbrev pub fixed : ℕ → ℕ → (Caller → List ℕ → State → Result Change Stop) → Row
 fixed slots price rest = record { slots = slots; price = λ a. price; by_argument = false; rest = rest }
 
--- one whose price names an argument
+-- a row whose price names an argument
 abbrev pub priced : ℕ → (List ℕ → ℕ) → (Caller → List ℕ → State → Result Change Stop) → Row
 priced slots price rest = record { slots = slots; price = price; by_argument = true; rest = rest }
+
+-- a service that is not built: no argument is read
+abbrev pub unbuilt_row : Row
+unbuilt_row = fixed 0 1 (λ c a. unbuilt)
 
 -- an argument, counted from 0: its 64 bits, or the lowest 32 or 8
 abbrev pub arg : List ℕ → ℕ → ℕ
@@ -53,9 +55,9 @@ arg8 a k = slice_index a k % 2 ^ 8
 abbrev pub per : ℕ → ℕ → ℕ
 per unit n = (n + (unit - 1)) / unit
 
--- one unit for a call, and one for each 64 bytes of a block that can be made
+-- one unit for the call, and one for each 64 bytes of a block that can be made
 abbrev pub pool_price : ℕ → ℕ
-pool_price size = if nat_lt most_bytes size then 1 else 1 + per 64 size
+pool_price size = if nat_lt MOST_BYTES size then 1 else 1 + per 64 size
 
 abbrev pub row : Service → Row
 row RaiseTpl = fixed 1 1 (λ c a. raise_tpl (arg a 0))
@@ -66,6 +68,9 @@ row Install = fixed 4 8 (λ c a. install c.image (arg a 0) (arg a 1) (arg32 a 2)
 row Uninstall = fixed 3 8 (λ c a. uninstall (arg a 0) (arg a 1) (arg a 2))
 row HandleProtocol = fixed 3 8 (λ c a. handle_protocol (arg a 0) (arg a 1) (arg a 2))
 row LocateHandle = fixed 5 16 (λ c a. locate_handle (arg32 a 0) (arg a 1) (arg a 3) (arg a 4))
+row Stall = fixed 1 1 (λ c a. stall)
+row ConnectController = unbuilt_row
+row DisconnectController = unbuilt_row
 row OpenProtocol = fixed 6 8 (λ c a. open_protocol (arg a 0) (arg a 1) (arg a 2) (arg a 3) (arg a 4) (arg32 a 5))
 row CloseProtocol = fixed 4 8 (λ c a. close (arg a 0) (arg a 1) (arg a 2) (arg a 3))
 row OpenProtocolInformation = fixed 4 16 (λ c a. open_protocol_information (arg a 0) (arg a 1) (arg a 2) (arg a 3))
@@ -73,51 +78,81 @@ row ProtocolsPerHandle = fixed 3 16 (λ c a. protocols_per_handle (arg a 0) (arg
 row LocateHandleBuffer = fixed 5 16 (λ c a. locate_handle_buffer (arg32 a 0) (arg a 1) (arg a 3) (arg a 4))
 row LocateProtocol = fixed 3 16 (λ c a. locate_protocol (arg a 0) (arg a 2))
 row InstallMultiple = fixed 1 16 (λ c a. install_multiple c.image (arg a 0) (first_pair c.sp))
-row Stall = fixed 1 1 (λ c a. stall)
+row UninstallMultiple = unbuilt_row
 row CopyMem = priced 3 (λ a. 1 + per 8 (arg a 2)) (λ c a. copy_mem (arg a 0) (arg a 1) (arg a 2))
 row SetMem = priced 3 (λ a. 1 + per 8 (arg a 1)) (λ c a. set_mem (arg a 0) (arg a 1) (arg8 a 2))
-row _ = fixed 0 1 (λ c a w. Err (stop.Status UNSUPPORTED))
+row Unbuilt = unbuilt_row
+-- the functions of PCI I/O
+row MemRead = unbuilt_row
+row MemWrite = unbuilt_row
+row PciRead = unbuilt_row
+row PciWrite = unbuilt_row
+row GetLocation = unbuilt_row
+row Attributes = unbuilt_row
 
 -- ---- how a service goes
 
--- a row's change is made, or all stays as it is
-abbrev pub ended : State → Result Change Stop → Served × State
-ended w (Ok change) = committed change w
-ended w (Err (stop.Status status)) = answered status w
-ended w (Err (stop.Trap cause)) = (Trap cause, w)
+-- a row's change is applied, or all stays as it is
+abbrev pub end_of_row : State → Result Change Stop → Served × State
+end_of_row w (Ok change) = applied change w
+end_of_row w (Err stop) = stop_answered stop w
 
--- a price is spent before the work; where it is more than what is left nothing is spent
-abbrev pub charged : ℕ → (State → Result Change Stop) → State → Served × State
-charged price work w =
+-- A price is spent before the work. If it is more than what is left, nothing is spent.
+abbrev pub with_price : ℕ → (State → Result Change Stop) → State → Served × State
+with_price price work w =
     if nat_lt w.hard.units price then (Trap Budget, w)
-    else ended (on_hard (units_spent price) w) (work (on_hard (units_spent price) w))
+    else end_of_row (on_hard (units_spent price) w) (work (on_hard (units_spent price) w))
 
 -- the arguments are read, and then the row's work is done
 abbrev pub with_arguments : Row → Caller → State → Result Change Stop
 with_arguments row c w = slots row.slots c.sp w >>= λ a. row.rest c a w
 
--- a price that names no argument comes before the arguments are read
+-- a price that names no argument is spent before the arguments are read
+abbrev pub fixed_price : Row → ℕ
+fixed_price row = row.price (replicate most_arguments 0)
+
 abbrev pub priced_first : Row → Caller → State → Served × State
-priced_first row c w = charged (row.price (replicate most_arguments 0)) (with_arguments row c) w
+priced_first row c w = with_price (fixed_price row) (with_arguments row c) w
 
--- one that names an argument comes behind
-abbrev pub priced_by : Row → Caller → State → Result (List ℕ) Stop → Served × State
-priced_by row c w (Ok a) = charged (row.price a) (row.rest c a) w
-priced_by row c w (Err stop) = ended w (Err stop)
+-- a price that names an argument is spent after them
+abbrev pub priced_with : Row → Caller → State → Result (List ℕ) Stop → Served × State
+priced_with row c w (Ok a) = with_price (row.price a) (row.rest c a) w
+priced_with row c w (Err stop) = stop_answered stop w
 
-abbrev pub priced_behind : Row → Caller → State → Served × State
-priced_behind row c w = priced_by row c w (slots row.slots c.sp w)
+abbrev pub priced_after : Row → Caller → State → Served × State
+priced_after row c w = priced_with row c w (slots row.slots c.sp w)
 
 -- what a call of a boot service answers, and the state that it leaves
 abbrev pub served : Service → Caller → State → Served × State
-served s c w = if (row s).by_argument then priced_behind (row s) c w else priced_first (row s) c w
+served s c w = if (row s).by_argument then priced_after (row s) c w else priced_first (row s) c w
 
 -- whether a service is one of the boot services, and no function of PCI I/O
 abbrev pub is_boot_service : Service → Bool
+is_boot_service RaiseTpl = true
+is_boot_service RestoreTpl = true
+is_boot_service AllocatePool = true
+is_boot_service FreePool = true
+is_boot_service Install = true
+is_boot_service Uninstall = true
+is_boot_service HandleProtocol = true
+is_boot_service LocateHandle = true
+is_boot_service Stall = true
+is_boot_service ConnectController = true
+is_boot_service DisconnectController = true
+is_boot_service OpenProtocol = true
+is_boot_service CloseProtocol = true
+is_boot_service OpenProtocolInformation = true
+is_boot_service ProtocolsPerHandle = true
+is_boot_service LocateHandleBuffer = true
+is_boot_service LocateProtocol = true
+is_boot_service InstallMultiple = true
+is_boot_service UninstallMultiple = true
+is_boot_service CopyMem = true
+is_boot_service SetMem = true
+is_boot_service Unbuilt = true
 is_boot_service MemRead = false
 is_boot_service MemWrite = false
 is_boot_service PciRead = false
 is_boot_service PciWrite = false
 is_boot_service GetLocation = false
 is_boot_service Attributes = false
-is_boot_service _ = true

@@ -2,8 +2,9 @@ pub mod Words
 pub mod Rows
 pub mod Protocols
 pub mod Many
+pub mod Connecting
 pub mod Contents
 pub mod Changes
 pub mod BootServices
-pub mod Allowed
 pub mod Untouched
+pub mod Allowed

@@ -1,33 +1,31 @@
--- InstallMultipleProtocolInterfaces (UEFI 2.8, 7.3). Its arguments behind the first are pairs, up to a 0:
+-- InstallMultipleProtocolInterfaces (UEFI 2.8, 7.3). Its arguments after the first are pairs, up to a 0:
 -- 8 bytes that point to a GUID, and 8 bytes of an interface.
-use Rattle.std.specs.Prelude.{ℕ, zero, suc, ◌+◌, ◌*◌, ◌%◌, ◌^◌, Bool, true, false, ◌||◌, not, nat_le, List, [], ◌∷◌, length, bytes_eq, Option, Some, None, Result, Ok, Err, if◌then◌else◌}
+use Rattle.std.specs.Prelude.{ℕ, zero, suc, ◌+◌, ◌*◌, ◌%◌, ◌^◌, Bool, true, false, ◌||◌, not, nat_le, List, length, bytes_eq, Option, Some, None, Result, Ok, Err, if◌then◌else◌}
 use Rattle.std.specs.List.{list_any, range_with_len}
+use Rattle.fw_types.specs.declared.limits.TheConstants.{MOST_INTERFACES}
 use Rattle.fw_types.specs.declared.status.TheConstants.Status.{INVALID_PARAMETER, OUT_OF_RESOURCES}
-use Rattle.handle_db.specs.Database.{interfaces_of, most_interfaces}
+use Rattle.handle_db.specs.Database.{interfaces_of}
 use Rattle.handle_db.specs.Installing.{is_full}
 use Rattle.world_model.specs.World.{State}
-use Rattle.service_model.specs.Words.{◌>>=◌, ◌>>◌, guid, has_protocol, named, null, number, readable, refuse_if, writable}
+use Rattle.service_model.specs.Words.{◌>>=◌, ◌>>◌, each, guid, has_protocol, handle_or_none, null, number, readable, refuse_if, writable}
+use Rattle.service_model.specs.declared.numbers.TheConstants.{MOST_PAIRS}
 use Rattle.service_model.specs.declared.plan.Stop.{Stop}
 use Rattle.service_model.specs.declared.plan.Change.{Change}
 use Rattle.service_model.specs.declared.plan.Change.TheVariants.{InstallMany}
 
--- the most pairs
-abbrev pub most_pairs : ℕ
-most_pairs = 32
-
--- the pairs stand behind the first argument
+-- the pairs come after the first argument
 abbrev pub first_pair : (sp : ℕ) → ℕ
 first_pair sp = (sp + 8) % 2 ^ 64
 
--- where a pair stands, counted from 0, and where its interface does. Addresses wrap in 64 bits.
+-- the address of a pair, counted from 0, and that of its interface. Addresses wrap in 64 bits.
 abbrev pub pair_place : (list i : ℕ) → ℕ
 pair_place list i = (list + 16 * i) % 2 ^ 64
 
 abbrev pub interface_place : (list i : ℕ) → ℕ
 interface_place list i = (list + 16 * i + 8) % 2 ^ 64
 
--- How many pairs stand before a 0, and whether one follows them; at most so many more than those of
--- before are read. Of a pair more the pointer alone is read.
+-- How many pairs come before a 0, and whether one follows them, where `done` were read before and at most
+-- so many more are read. Of one pair more only the pointer is read.
 unfoldable pub pairs_before : (most done list : ℕ) → State → Result (ℕ × Bool) Stop
 pairs_before zero done list w = number (pair_place list done) w >>= λ pointer. Ok (done, null pointer)
 pairs_before (suc most) done list w =
@@ -42,11 +40,6 @@ pair_name list i w = number (pair_place list i) w >>= λ pointer. guid pointer w
 abbrev pub pair_interface : (list i : ℕ) → State → Result ℕ Stop
 pair_interface list i w = number (interface_place list i) w
 
--- a line for each number, up to the first that stops
-abbrev pub each : (ℕ → Result Unit Stop) → List ℕ → Result Unit Stop
-each line [] = Ok tt
-each line (i ∷ rest) = line i >> each line rest
-
 -- the GUID of a pair can be read
 abbrev pub name_readable : (list : ℕ) → State → (i : ℕ) → Result Unit Stop
 name_readable list w i = number (pair_place list i) w >>= λ pointer. readable 16 pointer w
@@ -60,31 +53,31 @@ is_named name (Err stop) = false
 abbrev pub is_seen : List ℕ → (list seen : ℕ) → State → Bool
 is_seen name list seen w = list_any (λ i. is_named name (pair_name list i w)) (range_with_len 0 seen)
 
--- whether a limit is met, where so many are installed before
+-- whether a limit is met if so many are installed before
 abbrev pub no_room : Option ℕ → (seen : ℕ) → State → Bool
 no_room None seen w = is_full w.soft.database
-no_room (Some handle) seen w = nat_le most_interfaces (length (interfaces_of handle w.soft.database) + seen)
+no_room (Some handle) seen w = nat_le MOST_INTERFACES (length (interfaces_of handle w.soft.database) + seen)
 
--- a pair can be installed behind those before it
+-- a pair can be installed after those before it
 abbrev pub pair_fits : Option ℕ → (list : ℕ) → State → (i : ℕ) → Result Unit Stop
 pair_fits handle list w i = do
   name ← pair_name list i w
   refuse_if (has_protocol handle name w || is_seen name list i w) INVALID_PARAMETER
   refuse_if (no_room handle i w) OUT_OF_RESOURCES
 
--- the value of the handle, where there are pairs
+-- the handle that is given; without pairs it is not looked at
 abbrev pub handle_for : (given count : ℕ) → State → Result (Option ℕ) Stop
 handle_for given zero w = Ok None
-handle_for given (suc count) w = named given w
+handle_for given (suc count) w = handle_or_none given w
 
--- all pairs can be installed, one behind the other
+-- all pairs can be installed, one after the other
 abbrev pub all_fit : Option ℕ → (list count : ℕ) → State → Result Unit Stop
 all_fit handle list count w = each (pair_fits handle list w) (range_with_len 0 count)
 
 -- Every refusal comes before anything changes.
 abbrev pub install_multiple : (owner handle_at list : ℕ) → State → Result Change Stop
 install_multiple owner handle_at list w = do
-  pairs ← pairs_before most_pairs 0 list w
+  pairs ← pairs_before MOST_PAIRS 0 list w
   refuse_if (null handle_at) INVALID_PARAMETER
   writable 8 handle_at w
   given ← number handle_at w

@@ -1,8 +1,10 @@
--- What each of the protocol handler services does with its arguments (UEFI 2.8, 7.3), but for
--- InstallMultipleProtocolInterfaces, which `Many` has.
+-- What each of the protocol handler services does with its arguments (UEFI 2.8, 7.3), except
+-- InstallMultipleProtocolInterfaces, which is in `Many`, and ConnectController and DisconnectController,
+-- which are in `Connecting`.
 use Rattle.std.specs.Prelude.{ℕ, ◌*◌, Bool, true, false, ◌&&◌, ◌||◌, not, nat_eq, nat_lt, List, length, Option, Some, None, Result, Ok, Err, if◌then◌else◌}
 use Rattle.std.specs.List.{list_any}
 use Rattle.fw_types.specs.Attr.{has_bit_of}
+use Rattle.fw_types.specs.declared.attr.TheConstants.Attr.{AGENT_BITS, ALL_BITS, BY_CHILD_CONTROLLER, BY_HANDLE_PROTOCOL, CONTROLLER_BITS, TEST_PROTOCOL}
 use Rattle.fw_types.specs.declared.status.TheConstants.Status.{ACCESS_DENIED, ALREADY_STARTED, BUFFER_TOO_SMALL, INVALID_PARAMETER, NOT_FOUND, SUCCESS, UNSUPPORTED}
 use Rattle.handle_db.specs.Database.{first_with, handles_with, interface_of}
 use Rattle.open_records.specs.OpenRecords.{records_of}
@@ -12,8 +14,8 @@ use Rattle.open_records.specs.declared.verdict.Verdict.{Verdict}
 use Rattle.open_records.specs.declared.verdict.Verdict.TheVariants.{Add, Count, Already, Denied, MustDisconnect}
 use Rattle.world_model.specs.World.{State}
 use Rattle.world_model.specs.Interfaces.{firmware}
-use Rattle.world_model.specs.Records.{any_bit}
-use Rattle.service_model.specs.Words.{◌>>=◌, ◌>>◌, alive, dead, guid, has_protocol, legal, named, null, number, refuse_if, there, writable}
+use Rattle.service_model.specs.Words.{◌>>=◌, ◌>>◌, alive, dead, guid, has_protocol, legal, handle_or_none, null, number, refuse_if, installed_interface, writable}
+use Rattle.service_model.specs.declared.numbers.TheConstants.{ALL_HANDLES, BY_PROTOCOL, NATIVE_INTERFACE}
 use Rattle.service_model.specs.declared.plan.Stop.{Stop}
 use Rattle.service_model.specs.declared.plan.Stop.TheVariants.{Status}
 use Rattle.service_model.specs.declared.plan.Contents.TheVariants as contents
@@ -22,109 +24,88 @@ use Rattle.service_model.specs.declared.plan.Change.TheVariants.{Block, Close, H
 
 -- ---- installing and uninstalling
 
--- InstallProtocolInterface. Its one type of interface is 0, EFI_NATIVE_INTERFACE.
+-- InstallProtocolInterface
 abbrev pub install : (owner handle_at guid_at kind interface : ℕ) → State → Result Change Stop
 install owner handle_at guid_at kind interface w = do
   refuse_if (null handle_at || null guid_at) INVALID_PARAMETER
   writable 8 handle_at w
   name ← guid guid_at w
   given ← number handle_at w
-  refuse_if (not (nat_eq kind 0)) INVALID_PARAMETER
-  handle ← named given w
+  refuse_if (not (nat_eq kind NATIVE_INTERFACE)) INVALID_PARAMETER
+  handle ← handle_or_none given w
   refuse_if (has_protocol handle name w) INVALID_PARAMETER
   Ok (Install handle name interface owner handle_at)
 
--- whether a record on an interface has one of some bits, of an agent and for a controller where they are
--- given
+-- whether an interface has an open record with one of some bits, and of an agent and for a controller if
+-- they are given
 abbrev pub has_record : ℕ → List ℕ → (agent controller : Option ℕ) (bits : ℕ) → State → Bool
 has_record handle name agent controller bits w =
-    list_any (is_meant agent controller bits) (records_of w.soft.records.held handle name)
+    list_any (is_meant agent controller bits) (records_of w.soft.records.entries handle name)
 
--- BY_CHILD_CONTROLLER, BY_DRIVER and EXCLUSIVE
-abbrev pub using_bits : ℕ
-using_bits = 0x38
-
--- UninstallProtocolInterface. What the firmware owns stays. No driver is disconnected: where one uses
--- the interface, or has a child by it, the interface stays.
+-- UninstallProtocolInterface. What the firmware owns stays. No driver is disconnected: the interface stays
+-- if an agent uses it, as a driver, exclusively or for a child.
 abbrev pub uninstall : (given guid_at interface : ℕ) → State → Result Change Stop
 uninstall given guid_at interface w = do
   refuse_if (null guid_at) INVALID_PARAMETER
   name ← guid guid_at w
   handle ← alive given INVALID_PARAMETER w
-  found ← there handle name w
+  found ← installed_interface handle name w
   refuse_if (not (nat_eq found.0 interface)) NOT_FOUND
   refuse_if (nat_eq found.1 firmware) ACCESS_DENIED
-  refuse_if (has_record handle name None None using_bits w) ACCESS_DENIED
+  refuse_if (has_record handle name None None AGENT_BITS w) ACCESS_DENIED
   Ok (Uninstall handle name)
 
 -- ---- opening and closing
 
--- BY_HANDLE_PROTOCOL, TEST_PROTOCOL and BY_CHILD_CONTROLLER
-abbrev pub by_handle_protocol : ℕ
-by_handle_protocol = 0x01
-
-abbrev pub test_protocol : ℕ
-test_protocol = 0x04
-
-abbrev pub by_child_controller : ℕ
-by_child_controller = 0x08
-
--- the bits of the attributes that need a live agent, and of those that need a live controller
-abbrev pub agent_bits : ℕ
-agent_bits = 0x38
-
-abbrev pub controller_bits : ℕ
-controller_bits = 0x18
-
 -- a handle that is not live counts as 0
-abbrev pub counted : ℕ → State → ℕ
-counted handle w = if dead handle w then 0 else handle
+abbrev pub live_or_zero : ℕ → State → ℕ
+live_or_zero handle w = if dead handle w then 0 else handle
 
--- where the interface is stored, and in how many bytes: never with TEST_PROTOCOL
+-- the address at which the interface is stored, and how many bytes that takes: none with TEST_PROTOCOL
 abbrev pub out_of : (attr out : ℕ) → Option ℕ
-out_of attr out = if nat_eq attr test_protocol then None else Some out
+out_of attr out = if nat_eq attr TEST_PROTOCOL then None else Some out
 
 abbrev pub out_size : (bits : ℕ) → ℕ
-out_size bits = if nat_eq bits test_protocol then 0 else 8
+out_size bits = if nat_eq bits TEST_PROTOCOL then 0 else 8
 
--- What the records of the interface say decides. Where a driver would have to be disconnected first,
+-- What the open records of the interface say decides. If a driver would have to be disconnected first,
 -- the open is denied.
-abbrev pub said : Verdict → (handle : ℕ) → List ℕ → (out agent controller attr interface : ℕ) → Result Change Stop
-said Add handle name out agent controller attr interface = Ok (Open handle name agent controller attr (out_of attr out) interface)
-said Count handle name out agent controller attr interface = Ok (Open handle name agent controller attr (out_of attr out) interface)
-said Already handle name out agent controller attr interface = Ok (Store (out_of attr out) interface ALREADY_STARTED)
-said Denied handle name out agent controller attr interface = Err (Status ACCESS_DENIED)
-said (MustDisconnect holder) handle name out agent controller attr interface = Err (Status ACCESS_DENIED)
+abbrev pub change_for_verdict : Verdict → (handle : ℕ) → List ℕ → (out agent controller attr interface : ℕ) → Result Change Stop
+change_for_verdict Add handle name out agent controller attr interface = Ok (Open handle name agent controller attr (out_of attr out) interface)
+change_for_verdict Count handle name out agent controller attr interface = Ok (Open handle name agent controller attr (out_of attr out) interface)
+change_for_verdict Already handle name out agent controller attr interface = Ok (Store (out_of attr out) interface ALREADY_STARTED)
+change_for_verdict Denied handle name out agent controller attr interface = Err (Status ACCESS_DENIED)
+change_for_verdict (MustDisconnect holder) handle name out agent controller attr interface = Err (Status ACCESS_DENIED)
 
--- an open by an agent that counts as 0 is not entered, and none is in its way
-abbrev pub said_to : (handle : ℕ) → List ℕ → (out agent controller attr interface : ℕ) → State → Result Change Stop
-said_to handle name out agent controller attr interface w =
+-- an open by an agent that counts as 0 is not recorded, and no record is in its way
+abbrev pub open_by_records : (handle : ℕ) → List ℕ → (out agent controller attr interface : ℕ) → State → Result Change Stop
+open_by_records handle name out agent controller attr interface w =
     if null agent then Ok (Store (out_of attr out) interface SUCCESS)
-    else said (judge (records_of w.soft.records.held handle name) agent controller attr) handle name out agent controller attr interface
+    else change_for_verdict (judge (records_of w.soft.records.entries handle name) agent controller attr) handle name out agent controller attr interface
 
--- where the handle does not have the protocol, 0 is stored
-abbrev pub opened : Option (ℕ × ℕ) → (handle : ℕ) → List ℕ → (out agent controller attr : ℕ) → State → Result Change Stop
-opened None handle name out agent controller attr w = Ok (Store (out_of attr out) 0 UNSUPPORTED)
-opened (Some found) handle name out agent controller attr w =
-    said_to handle name out (counted agent w) (counted controller w) attr found.0 w
+-- 0 is stored if the handle does not have the protocol
+abbrev pub open_by_interface : Option (ℕ × ℕ) → (handle : ℕ) → List ℕ → (out agent controller attr : ℕ) → State → Result Change Stop
+open_by_interface None handle name out agent controller attr w = Ok (Store (out_of attr out) 0 UNSUPPORTED)
+open_by_interface (Some found) handle name out agent controller attr w =
+    open_by_records handle name out (live_or_zero agent w) (live_or_zero controller w) attr found.0 w
 
 -- OpenProtocol
 abbrev pub open_protocol : (given guid_at out agent controller bits : ℕ) → State → Result Change Stop
 open_protocol given guid_at out agent controller bits w = do
   refuse_if (null guid_at) INVALID_PARAMETER
   handle ← alive given INVALID_PARAMETER w
-  refuse_if (null out && not (nat_eq bits test_protocol)) INVALID_PARAMETER
+  refuse_if (null out && not (nat_eq bits TEST_PROTOCOL)) INVALID_PARAMETER
   name ← guid guid_at w
   writable (out_size bits) out w
   attr ← legal bits
-  refuse_if (has_bit_of agent_bits attr && dead agent w) INVALID_PARAMETER
-  refuse_if (has_bit_of controller_bits attr && dead controller w) INVALID_PARAMETER
-  refuse_if (nat_eq attr by_child_controller && nat_eq handle controller) INVALID_PARAMETER
-  opened (interface_of handle name w.soft.database) handle name out agent controller attr w
+  refuse_if (has_bit_of AGENT_BITS attr && dead agent w) INVALID_PARAMETER
+  refuse_if (has_bit_of CONTROLLER_BITS attr && dead controller w) INVALID_PARAMETER
+  refuse_if (nat_eq attr BY_CHILD_CONTROLLER && nat_eq handle controller) INVALID_PARAMETER
+  open_by_interface (interface_of handle name w.soft.database) handle name out agent controller attr w
 
 -- HandleProtocol opens as the firmware does, for no controller
 abbrev pub handle_protocol : (given guid_at out : ℕ) → State → Result Change Stop
-handle_protocol given guid_at out w = open_protocol given guid_at out firmware 0 by_handle_protocol w
+handle_protocol given guid_at out w = open_protocol given guid_at out firmware 0 BY_HANDLE_PROTOCOL w
 
 -- CloseProtocol
 abbrev pub close : (given guid_at agent controller : ℕ) → State → Result Change Stop
@@ -134,8 +115,8 @@ close given guid_at agent controller w = do
   handle ← alive given INVALID_PARAMETER w
   refuse_if (dead agent w) INVALID_PARAMETER
   refuse_if (not (null controller) && dead controller w) INVALID_PARAMETER
-  found ← there handle name w
-  refuse_if (not (has_record handle name (Some agent) (Some controller) any_bit w)) NOT_FOUND
+  found ← installed_interface handle name w
+  refuse_if (not (has_record handle name (Some agent) (Some controller) ALL_BITS w)) NOT_FOUND
   Ok (Close handle name agent controller)
 
 -- ---- what is there
@@ -148,7 +129,7 @@ open_protocol_information given guid_at buffer count w = do
   writable 8 buffer w
   writable 8 count w
   handle ← alive given NOT_FOUND w
-  found ← there handle name w
+  found ← installed_interface handle name w
   Ok (Block (contents.Opens handle name) buffer count false)
 
 -- ProtocolsPerHandle
@@ -162,30 +143,23 @@ protocols_per_handle given buffer count w = do
 
 -- ---- which handles have a protocol
 
--- AllHandles and ByProtocol, of EFI_LOCATE_SEARCH_TYPE
-abbrev pub all_handles : ℕ
-all_handles = 0
-
-abbrev pub by_protocol : ℕ
-by_protocol = 2
-
 -- whether a search is for one of these, and has the GUID that it needs
 abbrev pub refuse_search : (search guid_at : ℕ) → Result Unit Stop
 refuse_search search guid_at = do
-  refuse_if (not (nat_eq search all_handles || nat_eq search by_protocol)) INVALID_PARAMETER
-  refuse_if (nat_eq search by_protocol && null guid_at) INVALID_PARAMETER
+  refuse_if (not (nat_eq search ALL_HANDLES || nat_eq search BY_PROTOCOL)) INVALID_PARAMETER
+  refuse_if (nat_eq search BY_PROTOCOL && null guid_at) INVALID_PARAMETER
 
--- the protocol that is sought, or none where all handles are
-abbrev pub sought : (search guid_at : ℕ) → State → Result (Option (List ℕ)) Stop
-sought search guid_at w = if nat_eq search by_protocol then (guid guid_at w >>= λ name. Ok (Some name)) else Ok None
+-- the protocol of a search, or none for all handles
+abbrev pub search_protocol : (search guid_at : ℕ) → State → Result (Option (List ℕ)) Stop
+search_protocol search guid_at w = if nat_eq search BY_PROTOCOL then (guid guid_at w >>= λ name. Ok (Some name)) else Ok None
 
 -- how many handles a search finds
 abbrev pub how_many : Option (List ℕ) → State → ℕ
 how_many name w = length (handles_with name w.soft.database)
 
--- the handles are stored, where the buffer that is given has room; else the size that they need is
-abbrev pub stored_in : (given : ℕ) → Option (List ℕ) → (size buffer needed : ℕ) → State → Result Change Stop
-stored_in given name size buffer needed w =
+-- the handles are stored if the buffer that is given has room; else the size that they need is stored
+abbrev pub handles_in_buffer : (given : ℕ) → Option (List ℕ) → (size buffer needed : ℕ) → State → Result Change Stop
+handles_in_buffer given name size buffer needed w =
     if nat_lt given needed then Ok (Store (Some size) needed BUFFER_TOO_SMALL)
     else (do
       refuse_if (null buffer) INVALID_PARAMETER
@@ -197,27 +171,27 @@ abbrev pub locate_handle : (search guid_at size buffer : ℕ) → State → Resu
 locate_handle search guid_at size buffer w = do
   refuse_search search guid_at
   refuse_if (null size) INVALID_PARAMETER
-  name ← sought search guid_at w
+  name ← search_protocol search guid_at w
   writable 8 size w
   given ← number size w
   refuse_if (nat_eq (how_many name w) 0) NOT_FOUND
-  stored_in given name size buffer (8 * how_many name w) w
+  handles_in_buffer given name size buffer (8 * how_many name w) w
 
 -- LocateHandleBuffer. The key is not looked at.
 abbrev pub locate_handle_buffer : (search guid_at count buffer : ℕ) → State → Result Change Stop
 locate_handle_buffer search guid_at count buffer w = do
   refuse_search search guid_at
   refuse_if (null count || null buffer) INVALID_PARAMETER
-  name ← sought search guid_at w
+  name ← search_protocol search guid_at w
   writable 8 count w
   writable 8 buffer w
   refuse_if (nat_eq (how_many name w) 0) NOT_FOUND
   Ok (Block (contents.Handles name) buffer count true)
 
--- 0 is stored where no handle has the protocol
-abbrev pub located : Option (ℕ × ℕ) → (out : ℕ) → Result Change Stop
-located None out = Ok (Store (Some out) 0 NOT_FOUND)
-located (Some found) out = Ok (Store (Some out) found.0 SUCCESS)
+-- 0 is stored if no handle has the protocol
+abbrev pub change_for_found : Option (ℕ × ℕ) → (out : ℕ) → Result Change Stop
+change_for_found None out = Ok (Store (Some out) 0 NOT_FOUND)
+change_for_found (Some found) out = Ok (Store (Some out) found.0 SUCCESS)
 
 -- LocateProtocol. The key is not looked at.
 abbrev pub locate_protocol : (guid_at out : ℕ) → State → Result Change Stop
@@ -225,4 +199,4 @@ locate_protocol guid_at out w = do
   refuse_if (null guid_at || null out) INVALID_PARAMETER
   name ← guid guid_at w
   writable 8 out w
-  located (first_with name w.soft.database) out
+  change_for_found (first_with name w.soft.database) out

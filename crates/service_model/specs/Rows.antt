@@ -1,27 +1,29 @@
 -- What each boot service does with its arguments (UEFI 2.8, chapter 7 'Services - Boot Services').
-use Rattle.std.specs.Prelude.{ℕ, ◌&&◌, nat_le, nat_lt, Result, Ok, if◌then◌else◌}
-use Rattle.fw_types.specs.declared.status.TheConstants.Status.{INVALID_PARAMETER, OUT_OF_RESOURCES}
-use Rattle.guest_memory.specs.GuestMemory.{most_bytes}
+use Rattle.std.specs.Prelude.{ℕ, ◌&&◌, nat_le, nat_lt, Result, Ok, Err, if◌then◌else◌}
+use Rattle.fw_types.specs.declared.limits.TheConstants.{MOST_BYTES}
+use Rattle.fw_types.specs.declared.status.TheConstants.Status.{INVALID_PARAMETER, OUT_OF_RESOURCES, SUCCESS, UNSUPPORTED}
 use Rattle.world_model.specs.World.{State}
 use Rattle.service_model.specs.Words.{◌>>◌, null, readable, refuse_if, writable}
+use Rattle.service_model.specs.declared.numbers.TheConstants.{TPL_HIGH_LEVEL}
 use Rattle.service_model.specs.declared.plan.Stop.{Stop}
+use Rattle.service_model.specs.declared.plan.Stop.TheVariants.{Status}
 use Rattle.service_model.specs.declared.plan.Change.{Change}
 use Rattle.service_model.specs.declared.plan.Change.TheVariants.{Allot, Copy, Fill, Free, SetTpl, Value}
 
--- ---- 7.1, 'Event, Timer, and Task Priority Services'
+-- a service that is not built
+abbrev pub unbuilt : State → Result Change Stop
+unbuilt w = Err (Status UNSUPPORTED)
 
--- the highest task priority level
-abbrev pub tpl_high_level : ℕ
-tpl_high_level = 31
+-- ---- 7.1, 'Event, Timer, and Task Priority Services'
 
 -- RaiseTPL answers the level of before
 abbrev pub raise_tpl : (new : ℕ) → State → Result Change Stop
 raise_tpl new w =
-    if nat_le w.soft.tpl new && nat_le new tpl_high_level then Ok (SetTpl new w.soft.tpl) else Ok (Value w.soft.tpl)
+    if nat_le w.soft.tpl new && nat_le new TPL_HIGH_LEVEL then Ok (SetTpl new w.soft.tpl) else Ok (Value w.soft.tpl)
 
 -- RestoreTPL
 abbrev pub restore_tpl : (old : ℕ) → State → Result Change Stop
-restore_tpl old w = if nat_le old w.soft.tpl then Ok (SetTpl old 0) else Ok (Value 0)
+restore_tpl old w = if nat_le old w.soft.tpl then Ok (SetTpl old SUCCESS.0) else Ok (Value SUCCESS.0)
 
 -- ---- 7.2, 'Memory Allocation Services'
 
@@ -30,7 +32,7 @@ abbrev pub allocate_pool : (size out : ℕ) → State → Result Change Stop
 allocate_pool size out w = do
   refuse_if (null out) INVALID_PARAMETER
   writable 8 out w
-  refuse_if (nat_lt most_bytes size) OUT_OF_RESOURCES
+  refuse_if (nat_lt MOST_BYTES size) OUT_OF_RESOURCES
   Ok (Allot size out)
 
 -- FreePool
@@ -41,7 +43,7 @@ free_pool at w = Ok (Free at)
 
 -- Stall
 abbrev pub stall : State → Result Change Stop
-stall w = Ok (Value 0)
+stall w = Ok (Value SUCCESS.0)
 
 -- CopyMem
 abbrev pub copy_mem : (to from n : ℕ) → State → Result Change Stop

@@ -1,15 +1,22 @@
 -- What a boot service leaves as it was.
-use Rattle.std.specs.Prelude.{◌≡◌, ◌≤◌, Bool, true, false}
+use Rattle.std.specs.Prelude.{◌≡◌, ◌≤◌, ℕ, Bool, true, false, nat_lt, Option, Result, Ok, Err, if◌then◌else◌}
+use Rattle.fw_types.specs.Status.{is_error}
 use Rattle.fw_types.specs.declared.event.Cause.{Cause}
+use Rattle.fw_types.specs.declared.event.Cause.TheVariants.{Budget, Memory}
 use Rattle.service_thunks.specs.declared.service.Service.{Service}
 use Rattle.service_thunks.specs.declared.service.Service.TheVariants.{RaiseTpl, RestoreTpl}
-use Rattle.world_model.specs.World.{State}
-use Rattle.world_model.specs.Fixed.{fixed}
+use Rattle.world_model.specs.World.{State, on_hard}
+use Rattle.world_model.specs.Units.{units_spent}
+use Rattle.world_model.specs.Fixed.{fixed_segments}
 use Rattle.world_model.specs.Kept.{IsKept}
 use Rattle.world_model.specs.Marks.{stacks}
-use Rattle.service_model.specs.BootServices.{served}
+use Rattle.service_model.specs.Words.{◌>>=◌, slots}
+use Rattle.service_model.specs.BootServices.{fixed_price, row, served}
+use Rattle.service_model.specs.Changes.{stored_if}
 use Rattle.service_model.specs.declared.call.Caller.{Caller}
-use Rattle.service_model.specs.declared.call.Served.TheVariants.{Trap}
+use Rattle.service_model.specs.declared.call.Served.{Served}
+use Rattle.service_model.specs.declared.call.Served.TheVariants.{Again, Trap, Value}
+use Rattle.service_model.specs.declared.plan.Stop.{Stop}
 
 -- the state that a service leaves
 abbrev pub left_by : Service → Caller → State → State
@@ -17,17 +24,17 @@ left_by s c w = (served s c w).1
 
 -- the tables, lists of children and blocks of the firmware: the same ones are there, with their bytes
 abbrev pub FixedStay : Type 0
-FixedStay = (s : Service) (c : Caller) (w : State) → IsKept w.soft → fixed (left_by s c w).soft.memory ≡ fixed w.soft.memory
+FixedStay = (s : Service) (c : Caller) (w : State) → IsKept w.soft → fixed_segments (left_by s c w).soft.memory ≡ fixed_segments w.soft.memory
 
--- which stacks stand
+-- which levels have a stack
 abbrev pub StacksStay : Type 0
 StacksStay = (s : Service) (c : Caller) (w : State) → IsKept w.soft → stacks (left_by s c w).soft ≡ stacks w.soft
 
--- and what holds of every soft part
+-- what holds of every soft part
 abbrev pub KeptStays : Type 0
 KeptStays = (s : Service) (c : Caller) (w : State) → IsKept w.soft → IsKept (left_by s c w).soft
 
--- the task priority level, but for the two services that set it
+-- the task priority level, except for the two services that set it
 abbrev pub sets_tpl : Service → Bool
 sets_tpl RaiseTpl = true
 sets_tpl RestoreTpl = true
@@ -36,7 +43,7 @@ sets_tpl _ = false
 abbrev pub TplStays : Type 0
 TplStays = (s : Service) (c : Caller) (w : State) → sets_tpl s ≡ false → (left_by s c w).soft.tpl ≡ w.soft.tpl
 
--- the events, and all units but those that are spent
+-- the events, and all units except those that are spent
 abbrev pub EventsStay : Type 0
 EventsStay = (s : Service) (c : Caller) (w : State) → (left_by s c w).hard.events ≡ w.hard.events
 
@@ -46,3 +53,54 @@ UnitsNeverRise = (s : Service) (c : Caller) (w : State) → (left_by s c w).hard
 -- a service that traps may have spent its price, and changes nothing else
 abbrev pub TrapsChangeNothing : Type 0
 TrapsChangeNothing = (s : Service) (c : Caller) (w : State) (cause : Cause) → (served s c w).0 ≡ Trap cause → (left_by s c w).soft ≡ w.soft
+
+-- ---- what a service costs, and why it traps
+
+-- the price of a call, or why the argument that it names can't be read
+abbrev pub price_of : Service → Caller → State → Result ℕ Stop
+price_of s c w =
+    if (row s).by_argument then (slots (row s).slots c.sp w >>= λ a. Ok ((row s).price a)) else Ok (fixed_price (row s))
+
+-- `Budget` if the price is more than the units that are left; else `Memory`
+abbrev pub cause_by : Result ℕ Stop → State → Cause
+cause_by (Ok price) w = if nat_lt w.hard.units price then Budget else Memory
+cause_by (Err stop) w = Memory
+
+abbrev pub TrapsForItsCause : Type 0
+TrapsForItsCause = (s : Service) (c : Caller) (w : State) (cause : Cause) → (served s c w).0 ≡ Trap cause → cause ≡ cause_by (price_of s c w) w
+
+-- and always if its price is more than what is left, or can't be read
+abbrev pub ShortOfUnitsTraps : Type 0
+ShortOfUnitsTraps =
+    (s : Service) (c : Caller) (w : State) (price : ℕ) → price_of s c w ≡ Ok price → nat_lt w.hard.units price ≡ true → served s c w ≡ (Trap Budget, w)
+
+abbrev pub UnreadablePriceTraps : Type 0
+UnreadablePriceTraps = (s : Service) (c : Caller) (w : State) (stop : Stop) → price_of s c w ≡ Err stop → served s c w ≡ (Trap Memory, w)
+
+-- ---- errors
+
+-- what is left if a price was spent, and one number was stored or none
+pub record StoresAtMostOne (known : Result ℕ Stop) (old new : State) : Type 0 where
+  pub price : ℕ
+  pub out : Option ℕ
+  pub number : ℕ
+  pub costs : known ≡ Ok price
+  pub leaves : new ≡ stored_if out number (on_hard (units_spent price) old)
+
+-- so it is if a service answers an error: bit 63 is set
+abbrev pub ErrorsChangeNothing : Type 0
+ErrorsChangeNothing =
+    (s : Service) (c : Caller) (w : State) (value : ℕ) → (served s c w).0 ≡ Value value → is_error (record { 0 = value }) ≡ true
+    → StoresAtMostOne (price_of s c w) w (left_by s c w)
+
+-- ---- going on
+
+-- whether a service enters the driver model again
+abbrev pub goes_on : Served → Bool
+goes_on (Value value) = false
+goes_on (Trap cause) = false
+goes_on (Again reentry) = true
+
+-- no service that is built does
+abbrev pub NoneGoesOn : Type 0
+NoneGoesOn = (s : Service) (c : Caller) (w : State) → goes_on (served s c w).0 ≡ false

@@ -1,15 +1,38 @@
 //! Laws of the boot services, over the definitions alone. Each is the contract of a function with no
 //! work of its own.
 
-ghost use Rattle.service_model.specs.Allowed.{BlocksLeaveWritable, ImagesDoNotLast, PairsAreInstalled, PuttingLeavesWritable, RowsAreAllowed};
-ghost use Rattle.service_model.specs.Untouched.{EventsStay, FixedStay, KeptStays, StacksStay, TplStays, TrapsChangeNothing, UnitsNeverRise};
+ghost use Rattle.service_model.specs.Allowed.{
+  BlocksLeaveWritable,
+  ConnectIsAllowed,
+  ContextEndsAtZero,
+  ImagesDoNotLast,
+  PairsAreInstalled,
+  PuttingLeavesWritable,
+  ReentriesChangeNothing,
+  RowInstallsPairs,
+  RowsAreAllowed,
+};
+ghost use Rattle.service_model.specs.Untouched.{
+  ErrorsChangeNothing,
+  EventsStay,
+  FixedStay,
+  KeptStays,
+  NoneGoesOn,
+  ShortOfUnitsTraps,
+  StacksStay,
+  TplStays,
+  TrapsChangeNothing,
+  TrapsForItsCause,
+  UnitsNeverRise,
+  UnreadablePriceTraps,
+};
 
 use world_model::laws::{changes_keep, fixed_segments_stay, segments_fit, stacks_stand};
 
-/// A row says no change but one that can be made: the bytes that it reads and writes can be read and
-/// written, an interface that goes is an image's, and an open that is entered is of an interface that is
-/// there, by a live agent, for a live controller or for none, with a legal attribute, and kept out by no
-/// record.
+/// A row ends only with a change that can be applied: the bytes that it reads and writes can be read
+/// and written; an interface that is removed is an image's; pairs can be installed; and an open that is
+/// recorded is of an interface that is there, by a live agent, for a live controller or for none, with a
+/// legal attribute, and no record keeps it out.
 pub fn rows_are_allowed()
     ensures { RowsAreAllowed }
 {}
@@ -26,22 +49,32 @@ pub fn puts_leave_writable()
     ensures { PuttingLeavesWritable }
 {}
 
-/// An interface that an image owns is none of those that always stay: the loaded image protocols and the
-/// bus driver's binding are the firmware's.
+/// An interface that an image owns is none of those that always stay: the firmware owns the loaded image
+/// protocols and the bus driver's binding.
 pub fn images_do_not_last()
     ensures { ImagesDoNotLast }
 {}
 
-/// InstallMultipleProtocolInterfaces installs all or none: where its row does not stop, each pair is
-/// there behind it, all on one handle, each with its interface and owned by the image that calls.
+/// InstallMultipleProtocolInterfaces installs all or none. Of pairs that can be installed none is
+/// refused: each is there afterwards, all on one handle, each with its interface and its owner. The row
+/// ends with such pairs, and the image that calls owns them.
 pub fn pairs_are_installed()
-    ensures { PairsAreInstalled }
+    ensures each { PairsAreInstalled }
+    ensures row { RowInstallsPairs }
+{}
+
+/// The row of ConnectController ends only with a change that can be applied, and its list of handles ends
+/// at a 0. A service that goes on changes nothing before.
+pub fn reentries_change_nothing()
+    ensures allowed { ConnectIsAllowed }
+    ensures ends { ContextEndsAtZero }
+    ensures state { ReentriesChangeNothing }
 {}
 
 /// What a boot service keeps: each segment that code may not write, with its bytes; all stacks; and what
 /// holds of every soft part.
 pub fn services_keep()
-    ensures fixed { FixedStay }
+    ensures fixed_segments { FixedStay }
     ensures stacks { StacksStay }
     ensures kept { KeptStays }
 {
@@ -54,11 +87,26 @@ pub fn services_keep()
     rows_are_allowed();
 }
 
-/// What a boot service leaves as it was: the task priority level, but for RaiseTPL and RestoreTPL; and
-/// the events. Units never rise, and a service that traps leaves the whole soft part.
+/// What a boot service leaves as it was: the task priority level, except for RaiseTPL and RestoreTPL; and
+/// the events. Units never rise, and a service that traps leaves the whole soft part. One that answers an
+/// error, whose bit 63 is set, has spent its price, and has stored one number at most.
 pub fn services_leave()
     ensures tpl { TplStays }
     ensures events { EventsStay }
     ensures units { UnitsNeverRise }
     ensures traps { TrapsChangeNothing }
+    ensures errors { ErrorsChangeNothing }
+{}
+
+/// Why a boot service traps. If its price names an argument that can't be read, for `Memory`; else, exactly
+/// if the price is more than the units that are left, for `Budget`; else for `Memory`.
+pub fn services_trap()
+    ensures cause { TrapsForItsCause }
+    ensures short { ShortOfUnitsTraps }
+    ensures unreadable { UnreadablePriceTraps }
+{}
+
+/// No boot service that is built so far enters the driver model again.
+pub fn services_end()
+    ensures { NoneGoesOn }
 {}

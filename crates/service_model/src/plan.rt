@@ -1,6 +1,6 @@
 use fw_types::{Attr, Cause, Guid, Handle, Status};
 
-/// How a row ends where it changes nothing.
+/// Why a row stops. Then it changes nothing.
 #[derive(Clone, Copy, Debug, PartialEq, Eq)]
 pub enum Stop {
     /// The service answers this status.
@@ -12,7 +12,7 @@ pub enum Stop {
 /// What a service writes into a block of the pool that it returns.
 #[derive(Clone, Copy, Debug, PartialEq, Eq)]
 pub enum Contents {
-    /// The handles that have a protocol, or all where none is named: 8 bytes each, rising.
+    /// The handles that have a protocol, or all handles, by rising number: 8 bytes each.
     Handles(Option<Guid>),
     /// The open records of an interface in order of their making, in 24 bytes each: agent and controller
     /// in 8, attributes and count in 4 (UEFI 2.8, 7.3: EFI_OPEN_PROTOCOL_INFORMATION_ENTRY).
@@ -23,14 +23,14 @@ pub enum Contents {
         guid: Guid,
     },
     /// The protocols of a handle in order of installation: for each 8 bytes that point to its GUID, and
-    /// behind them the GUIDs, 16 bytes each.
+    /// after these the GUIDs, 16 bytes each.
     Protocols(Handle),
 }
 
-/// All that a row does in the end, and the only thing that changes the world but for its price.
+/// What a row ends with. Except for the price, nothing else changes the world.
 #[derive(Clone, Copy, Debug, PartialEq, Eq)]
 pub enum Change {
-    /// Nothing; R7 is this value.
+    /// Nothing changes, and R7 is this value.
     Value(u64),
     /// The task priority level is set.
     SetTpl {
@@ -39,19 +39,19 @@ pub enum Change {
         /// R7.
         answer: u64,
     },
-    /// A block of the pool is made.
+    /// A block of the pool is made, and its address is stored.
     Allot {
         /// How many bytes it has, all 0.
         size: u64,
         /// Where its address is stored.
         out: u64,
     },
-    /// A block of the pool is taken out.
+    /// A block of the pool is freed.
     Free {
         /// Its address.
         at: u64,
     },
-    /// Bytes are copied, as if through a copy beside both.
+    /// Bytes are copied, as if through a buffer apart from both.
     Copy {
         /// The address of the first byte that is written.
         to: u64,
@@ -60,7 +60,7 @@ pub enum Change {
         /// How many bytes.
         n: u64,
     },
-    /// Bytes are all set to one.
+    /// Bytes are all set to one value.
     Fill {
         /// The address of the first.
         to: u64,
@@ -69,9 +69,9 @@ pub enum Change {
         /// Their new value.
         byte: u8,
     },
-    /// A number is stored, where a place is given for it.
+    /// A number is stored if a place is given for it.
     Store {
-        /// Where, in 8 bytes.
+        /// The address of its 8 bytes.
         out: Option<u64>,
         /// The number.
         value: u64,
@@ -80,7 +80,7 @@ pub enum Change {
     },
     /// A protocol interface is installed.
     Install {
-        /// On which handle, or on a new one.
+        /// The handle, or none if it is installed on a new one.
         handle: Option<Handle>,
         /// The protocol.
         guid: Guid,
@@ -91,45 +91,45 @@ pub enum Change {
         /// Where the number of a new handle is stored.
         out: u64,
     },
-    /// Protocol interfaces are installed, all on one handle. None of them is refused.
+    /// Protocol interfaces are installed, all on one handle.
     InstallMany {
-        /// On which handle, or on a new one.
+        /// The handle, or none if they are installed on a new one.
         handle: Option<Handle>,
-        /// Where the list of them begins: 8 bytes that point to a GUID and 8 bytes of an interface, for
-        /// each.
+        /// Where the list of them begins: for each 8 bytes that point to a GUID and 8 bytes of an
+        /// interface.
         list: u64,
-        /// How many there are, at most 32.
+        /// How many there are, at most `MOST_PAIRS`.
         count: u64,
         /// The image that installs them.
         owner: Handle,
         /// Where the number of a new handle is stored.
         out: u64,
     },
-    /// A protocol interface goes, with the records on it. It is an image's, not the firmware's.
+    /// A protocol interface is removed with its open records. An image owns it, not the firmware.
     Uninstall {
         /// The handle that has it.
         handle: Handle,
         /// The protocol.
         guid: Guid,
     },
-    /// An open of an interface is entered.
+    /// An open of an interface is recorded.
     Open {
         /// The handle that has it.
         handle: Handle,
         /// The protocol.
         guid: Guid,
-        /// Who opens it.
+        /// The agent that opens it.
         agent: u64,
         /// The controller for which it is opened, or 0.
         controller: u64,
-        /// How it is opened.
+        /// The attributes with which it is opened.
         attr: Attr,
-        /// Where the address of the interface is stored, unless it is opened as a test.
+        /// Where the address of the interface is stored; none with TEST_PROTOCOL.
         out: Option<u64>,
         /// The address of the interface.
         interface: u64,
     },
-    /// The records of an agent for a controller go from an interface.
+    /// The open records of an agent for a controller are removed from an interface.
     Close {
         /// The handle that has it.
         handle: Handle,
@@ -140,9 +140,9 @@ pub enum Change {
         /// The controller, or 0.
         controller: u64,
     },
-    /// The handles that have a protocol, or all, are stored with how many bytes they take.
+    /// The handles that have a protocol, or all handles, are stored, and how many bytes they take.
     Handles {
-        /// The protocol, where one is named.
+        /// The protocol, or none for all handles.
         guid: Option<Guid>,
         /// Where the number of bytes is stored.
         size: u64,
@@ -159,5 +159,29 @@ pub enum Change {
         count: u64,
         /// Whether the number is stored before the address.
         count_first: bool,
+    },
+    /// Nothing changes, and the service goes on to connect drivers to a controller.
+    Connect {
+        /// The controller.
+        controller: u64,
+        /// Where the list of handles begins, 8 bytes each.
+        list: u64,
+        /// How many of them come before the 0 that ends the list.
+        count: u64,
+        /// The address of the remaining device path, or 0.
+        path: u64,
+        /// Whether the path begins with its end node.
+        at_end: bool,
+        /// Whether drivers are also connected to the controller's children.
+        recursive: bool,
+    },
+    /// Nothing changes, and the service goes on to disconnect drivers from a controller.
+    Disconnect {
+        /// The controller.
+        controller: u64,
+        /// The driver, or 0 for all drivers.
+        driver: u64,
+        /// The child that is destroyed, or 0 for all children.
+        child: u64,
     },
 }

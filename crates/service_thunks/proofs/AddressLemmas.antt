@@ -1,30 +1,31 @@
--- Looking an address up among services that stand 8 bytes apart.
+-- Looking an address up among services at addresses 8 bytes apart.
 use Rattle.std.proofs.Common.{◌≡◌, ◌≢◌, ℕ, zero, suc, ◌+◌, ◌-◌, ◌*◌, ◌%◌, Bool, true, false, not, cond, ◌&&◌, ◌||◌, nat_eq, nat_le, nat_lt, List, [], ◌∷◌, ◌++◌, length, Option, Some, None, is_some, refl, ap, sym, ◌∙◌, arith}
 use Rattle.std.specs.List.{list_all, slice_get}
 use Rattle.std.specs.Map.{lookup}
 use Rattle.std.specs.Option.{option_or}
 use Rattle.std.proofs.lemmas.Bool.{and_parts, eq-eqb, eqb-true, eqb-false, ne_eqb}
 use Rattle.std.proofs.lemmas.Bool.Decides.{nat_tests}
-use Rattle.service_thunks.specs.Placed.{placed}
-use Rattle.service_thunks.specs.Services.{OneAddress, ServiceAddresses, addressed, addresses, boot_base, boot_services, is_built, is_service_address, pci_io_base, pci_io_functions, service_of}
+use Rattle.service_thunks.specs.Placed.{by_place}
+use Rattle.guest_memory.specs.declared.address_map.TheConstants.{BOOT_SERVICES, PCI_IO_FUNCTIONS}
+use Rattle.service_thunks.specs.Services.{OneAddress, ServiceAddresses, with_addresses, addresses, boot_services, is_built, is_service_address, pci_io_functions, service_of}
 use Rattle.service_thunks.specs.declared.service.Service.{Service}
 use Rattle.service_thunks.specs.declared.service.Service.TheVariants.{RaiseTpl, RestoreTpl, AllocatePool, FreePool, Install, Uninstall, HandleProtocol, LocateHandle, Stall, ConnectController, DisconnectController, OpenProtocol, CloseProtocol, OpenProtocolInformation, ProtocolsPerHandle, LocateHandleBuffer, LocateProtocol, InstallMultiple, UninstallMultiple, CopyMem, SetMem, MemRead, MemWrite, PciRead, PciWrite, GetLocation, Attributes, Unbuilt}
 use Rattle.service_thunks.specs.declared.addresses.TheConstants.{BOOT, PCI}
 
 -- an address that is no place of theirs
-pub placed_none : (at from : ℕ) (services : List Service) → ((k : ℕ) → at ≢ from + 8 * k) → lookup (nat_eq at) (placed from services) ≡ None
-placed_none at from [] none = refl
-placed_none at from (service ∷ services) none =
+pub by_place-none : (at from : ℕ) (services : List Service) → ((k : ℕ) → at ≢ from + 8 * k) → lookup (nat_eq at) (by_place from services) ≡ None
+by_place-none at from [] none = refl
+by_place-none at from (service ∷ services) none =
     let first : nat_eq at from ≡ false = ne_eqb at from (λ same. none 0 (omega arith)) in
-    rw first (placed_none at (from + 8) services (λ k same. none (suc k) (omega arith)))
+    rw first (by_place-none at (from + 8) services (λ k same. none (suc k) (omega arith)))
 
 -- the address of a place
-pub placed_some : (from k : ℕ) (at : ℕ) (services : List Service) → at ≡ from + 8 * k → lookup (nat_eq at) (placed from services) ≡ slice_get services k
-placed_some from k at [] is = refl
-placed_some from zero at (service ∷ services) is = let here : nat_eq at from ≡ true = eq-eqb at from (omega arith) in rw here refl
-placed_some from (suc k) at (service ∷ services) is =
+pub by_place-some : (from k : ℕ) (at : ℕ) (services : List Service) → at ≡ from + 8 * k → lookup (nat_eq at) (by_place from services) ≡ slice_get services k
+by_place-some from k at [] is = refl
+by_place-some from zero at (service ∷ services) is = let here : nat_eq at from ≡ true = eq-eqb at from (omega arith) in rw here refl
+by_place-some from (suc k) at (service ∷ services) is =
     let past : nat_eq at from ≡ false = ne_eqb at from (λ same. omega arith) in
-    rw past (placed_some (from + 8) k at services (omega arith))
+    rw past (by_place-some (from + 8) k at services (omega arith))
 
 lookup-append : (at : ℕ) (es fs : List (ℕ × Service)) → lookup (nat_eq at) (es ++ fs) ≡ option_or (lookup (nat_eq at) es) (lookup (nat_eq at) fs)
 lookup-append at [] fs = refl
@@ -34,20 +35,20 @@ lookup-append at (e ∷ es) fs =
       | false ↦ lookup-append at es fs
     ]
 
--- the two tables, one behind the other
-pub service_by : (at : ℕ) → service_of at ≡ option_or (lookup (nat_eq at) (placed 0x20018 BOOT)) (lookup (nat_eq at) (placed 0x21000 PCI))
+-- the two tables, one after the other
+pub service_by : (at : ℕ) → service_of at ≡ option_or (lookup (nat_eq at) (by_place 0x20018 BOOT)) (lookup (nat_eq at) (by_place 0x21000 PCI))
 unfolding service_of
-service_by at = lookup-append at (addressed boot_base boot_services) (addressed pci_io_base pci_io_functions)
+service_by at = lookup-append at (with_addresses BOOT_SERVICES boot_services) (with_addresses PCI_IO_FUNCTIONS pci_io_functions)
 
-pub service_first : (at : ℕ) (s : Service) → Some s ≡ lookup (nat_eq at) (placed 0x20018 BOOT) → Some s ≡ service_of at
-service_first at s found = sym (service_by at ∙ ap (λ (first : Option Service). option_or first (lookup (nat_eq at) (placed 0x21000 PCI))) (sym found))
+pub service_first : (at : ℕ) (s : Service) → Some s ≡ lookup (nat_eq at) (by_place 0x20018 BOOT) → Some s ≡ service_of at
+service_first at s found = sym (service_by at ∙ ap (λ (first : Option Service). option_or first (lookup (nat_eq at) (by_place 0x21000 PCI))) (sym found))
 
-pub service_second : (at : ℕ) → None ≡ lookup (nat_eq at) (placed 0x20018 BOOT) → lookup (nat_eq at) (placed 0x21000 PCI) ≡ service_of at
-service_second at none = sym (service_by at ∙ ap (λ (first : Option Service). option_or first (lookup (nat_eq at) (placed 0x21000 PCI))) (sym none))
+pub service_second : (at : ℕ) → None ≡ lookup (nat_eq at) (by_place 0x20018 BOOT) → lookup (nat_eq at) (by_place 0x21000 PCI) ≡ service_of at
+service_second at none = sym (service_by at ∙ ap (λ (first : Option Service). option_or first (lookup (nat_eq at) (by_place 0x21000 PCI))) (sym none))
 
 -- ---- one address
 
--- where each service stands
+-- the address of each service
 home : Service → ℕ
 home RaiseTpl = 0x20018
 home RestoreTpl = 0x20020
@@ -112,7 +113,7 @@ one_address a b s built at_a at_b = sym (at_home a s built at_a) ∙ at_home b s
 
 -- ---- all addresses
 
--- whether an address is one of n that stand 8 bytes apart
+-- whether an address is one of n that are 8 bytes apart
 is_among : ℕ → ℕ → ℕ → Bool
 is_among from n at = nat_le from at && nat_lt at (from + 8 * n) && nat_eq ((at - from) % 8) 0
 
@@ -124,18 +125,18 @@ among_later : (from n at : ℕ) → (at ≡ from → ⊥) → is_among (from + 8
 unfolding is_among
 among_later from n at other = grind (arith, nat_tests)
 
-is_some-placed-more : (from : ℕ) (n at : ℕ) (service : Service) (later : Option Service) (here : Bool) → nat_eq at from ≡ here → is_some later ≡ is_among (from + 8) n at → is_some (cond here (Some service) later) ≡ is_among from (suc n) at
-is_some-placed-more from n at service later true is rest = among_here from n at (eqb-true at from is)
-is_some-placed-more from n at service later false is rest = rest ∙ among_later from n at (eqb-false at from is)
+is_some-by_place-more : (from : ℕ) (n at : ℕ) (service : Service) (later : Option Service) (here : Bool) → nat_eq at from ≡ here → is_some later ≡ is_among (from + 8) n at → is_some (cond here (Some service) later) ≡ is_among from (suc n) at
+is_some-by_place-more from n at service later true is rest = among_here from n at (eqb-true at from is)
+is_some-by_place-more from n at service later false is rest = rest ∙ among_later from n at (eqb-false at from is)
 
 among_none : (from at : ℕ) → false ≡ is_among from 0 at
 unfolding is_among
 among_none from at = grind (arith, nat_tests)
 
-is_some-placed : (from at : ℕ) (services : List Service) → is_some (lookup (nat_eq at) (placed from services)) ≡ is_among from (length services) at
-is_some-placed from at [] = among_none from at
-is_some-placed from at (service ∷ services) =
-    is_some-placed-more from (length services) at service (lookup (nat_eq at) (placed (from + 8) services)) (nat_eq at from) refl (is_some-placed (from + 8) at services)
+is_some-by_place : (from at : ℕ) (services : List Service) → is_some (lookup (nat_eq at) (by_place from services)) ≡ is_among from (length services) at
+is_some-by_place from at [] = among_none from at
+is_some-by_place from at (service ∷ services) =
+    is_some-by_place-more from (length services) at service (lookup (nat_eq at) (by_place (from + 8) services)) (nat_eq at from) refl (is_some-by_place (from + 8) at services)
 
 is_some-or : {X : Type 0} (a b : Option X) → is_some (option_or a b) ≡ (is_some a || is_some b)
 is_some-or None b = refl
@@ -148,5 +149,5 @@ among_both at = grind (arith, nat_tests)
 pub service_addresses : ServiceAddresses
 service_addresses at =
     ap is_some (service_by at)
-    ∙ is_some-or (lookup (nat_eq at) (placed 0x20018 BOOT)) (lookup (nat_eq at) (placed 0x21000 PCI))
-    ∙ rw (is_some-placed 0x20018 at BOOT, is_some-placed 0x21000 at PCI) (among_both at)
+    ∙ is_some-or (lookup (nat_eq at) (by_place 0x20018 BOOT)) (lookup (nat_eq at) (by_place 0x21000 PCI))
+    ∙ rw (is_some-by_place 0x20018 at BOOT, is_some-by_place 0x21000 at PCI) (among_both at)

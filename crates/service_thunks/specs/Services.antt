@@ -1,7 +1,8 @@
--- Which service stands at which address. The firmware's tables hold addresses at which no memory is
+-- Which service is at which address. The firmware's tables hold addresses at which no memory is
 -- mapped; a native call to one of them asks for the service.
 use Rattle.std.specs.Prelude.{◌≡◌, ℕ, ◌+◌, ◌%◌, Bool, true, false, ◌&&◌, ◌||◌, nat_eq, nat_le, List, [], ◌∷◌, ◌++◌, map, Option, Some, is_some, codes}
 use Rattle.std.specs.Map.{lookup}
+use Rattle.guest_memory.specs.declared.address_map.TheConstants.{BOOT_SERVICES, PCI_IO_FUNCTIONS}
 use Rattle.service_thunks.specs.declared.service.Service.{Service}
 use Rattle.service_thunks.specs.declared.service.Service.TheVariants.{RaiseTpl, RestoreTpl, AllocatePool, FreePool, Install, Uninstall, HandleProtocol, LocateHandle, Stall, ConnectController, DisconnectController, OpenProtocol, CloseProtocol, OpenProtocolInformation, ProtocolsPerHandle, LocateHandleBuffer, LocateProtocol, InstallMultiple, UninstallMultiple, CopyMem, SetMem, MemRead, MemWrite, PciRead, PciWrite, GetLocation, Attributes, Unbuilt}
 
@@ -14,7 +15,7 @@ pub record Row : Type 0 where
 abbrev pub row : ℕ → List ℕ → Service → Row
 row offset name service = record { offset = offset; name = name; service = service }
 
--- UEFI 2.8, 'EFI Boot Services Table'
+-- UEFI 2.8, 4.4: EFI Boot Services Table
 abbrev pub boot_services : List Row
 boot_services =
     row 24 (codes "RaiseTPL") RaiseTpl
@@ -63,7 +64,7 @@ boot_services =
     ∷ row 368 (codes "CreateEventEx") Unbuilt
     ∷ []
 
--- UEFI 2.8, 'EFI PCI I/O Protocol'
+-- UEFI 2.8, 14.4: EFI PCI I/O Protocol
 abbrev pub pci_io_functions : List Row
 pci_io_functions =
     row 0 (codes "PollMem") Unbuilt
@@ -86,19 +87,13 @@ pci_io_functions =
     ∷ row 136 (codes "SetBarAttributes") Unbuilt
     ∷ []
 
--- the entry at an offset is the address of so many bytes behind these
-abbrev pub boot_base : ℕ
-boot_base = 0x20000
+-- each service of a table with its address, which is so many bytes from a base as the entry's offset says
+abbrev pub with_addresses : ℕ → List Row → List (ℕ × Service)
+with_addresses base rows = map (λ (entry : Row). (base + entry.offset, entry.service)) rows
 
-abbrev pub pci_io_base : ℕ
-pci_io_base = 0x21000
-
-abbrev pub addressed : ℕ → List Row → List (ℕ × Service)
-addressed base rows = map (λ (entry : Row). (base + entry.offset, entry.service)) rows
-
--- every address at which a service stands
+-- every address that has a service
 abbrev pub addresses : List (ℕ × Service)
-addresses = addressed boot_base boot_services ++ addressed pci_io_base pci_io_functions
+addresses = with_addresses BOOT_SERVICES boot_services ++ with_addresses PCI_IO_FUNCTIONS pci_io_functions
 
 -- the service at an address
 unfoldable pub service_of : ℕ → Option Service
@@ -111,15 +106,15 @@ is_built _ = true
 
 -- ---- laws of the table
 
--- a service that this firmware has stands at one address
+-- a service that this firmware has is at one address
 abbrev pub OneAddress : Type 0
 OneAddress = (a b : ℕ) (s : Service) → is_built s ≡ true → service_of a ≡ Some s → service_of b ≡ Some s → a ≡ b
 
--- a service stands at each multiple of 8 from offset 24 to 368 of the boot services, and from 0 to 136
+-- there is a service at each multiple of 8 from offset 24 to 368 of the boot services, and from 0 to 136
 -- of PCI I/O, and nowhere else
 abbrev pub is_service_address : ℕ → Bool
 is_service_address at =
-    nat_eq (at % 8) 0 && (nat_le (boot_base + 24) at && nat_le at (boot_base + 368) || nat_le pci_io_base at && nat_le at (pci_io_base + 136))
+    nat_eq (at % 8) 0 && (nat_le (BOOT_SERVICES + 24) at && nat_le at (BOOT_SERVICES + 368) || nat_le PCI_IO_FUNCTIONS at && nat_le at (PCI_IO_FUNCTIONS + 136))
 
 abbrev pub ServiceAddresses : Type 0
 ServiceAddresses = (at : ℕ) → is_some (service_of at) ≡ is_service_address at

@@ -1,26 +1,14 @@
--- The tables that the firmware shows to drivers, as bytes (UEFI 2.8, 'EFI System Table').
-use Rattle.std.specs.Prelude.{ℕ, ◌+◌, List, [], ◌∷◌, ◌++◌, length, map, take, drop, replicate, codes}
-use Rattle.byteorder.specs.Endian.{little_bytes}
-use Rattle.service_thunks.specs.Services.{Row, boot_base, boot_services}
-
--- a field of a table: its name in the standard, its offset, and its bytes
-pub record Field : Type 0 where
-  pub name : List ℕ
-  pub offset : ℕ
-  pub bytes : List ℕ
-
--- a field of 4 bytes, or of 8, lowest byte first
-abbrev pub uint32 : ℕ → List ℕ → ℕ → Field
-uint32 offset name value = record { name = name; offset = offset; bytes = little_bytes 4 value }
-
-abbrev pub uint64 : ℕ → List ℕ → ℕ → Field
-uint64 offset name value = record { name = name; offset = offset; bytes = little_bytes 8 value }
+-- The tables that the firmware shows to drivers, as bytes (UEFI 2.8, 4.3: EFI System Table).
+use Rattle.std.specs.Prelude.{ℕ, ◌+◌, List, [], ◌∷◌, ◌++◌, map, replicate, codes}
+use Rattle.fw_types.specs.Layout.{Field, put_all, uint32, uint64}
+use Rattle.guest_memory.specs.declared.address_map.TheConstants.{BOOT_SERVICES, BOOT_TABLE, SYSTEM_TABLE}
+use Rattle.service_thunks.specs.Services.{Row, boot_services}
 
 -- revision 2.80
 abbrev pub revision : ℕ
 revision = 0x00020050
 
--- UEFI 2.8, 'EFI Table Header'. The CRC is not computed.
+-- UEFI 2.8, 4.2: EFI Table Header. The CRC is not computed.
 abbrev pub header_fields : ℕ → ℕ → List Field
 header_fields signature size =
     uint64 0 (codes "Signature") signature
@@ -30,14 +18,7 @@ header_fields signature size =
     ∷ uint32 20 (codes "Reserved") 0
     ∷ []
 
--- where the tables lie
-abbrev pub system_table_at : ℕ
-system_table_at = 0x10000
-
-abbrev pub boot_table_at : ℕ
-boot_table_at = 0x11000
-
--- how many bytes they have
+-- the sizes of the two tables, in bytes
 abbrev pub system_table_size : ℕ
 system_table_size = 120
 
@@ -51,11 +32,11 @@ system_signature = 0x5453595320494249
 abbrev pub boot_signature : ℕ
 boot_signature = 0x56524553544f4f42
 
--- The vendor is the empty string right behind the table. There is no console, no runtime service and
--- no configuration table.
+-- The vendor is the empty string right after the table. There is no console, no runtime service and no
+-- configuration table.
 abbrev pub system_fields : List Field
 system_fields =
-    uint64 24 (codes "FirmwareVendor") (system_table_at + system_table_size)
+    uint64 24 (codes "FirmwareVendor") (SYSTEM_TABLE + system_table_size)
     ∷ uint32 32 (codes "FirmwareRevision") 1
     ∷ uint64 40 (codes "ConsoleInHandle") 0
     ∷ uint64 48 (codes "ConIn") 0
@@ -64,31 +45,19 @@ system_fields =
     ∷ uint64 72 (codes "StandardErrorHandle") 0
     ∷ uint64 80 (codes "StdErr") 0
     ∷ uint64 88 (codes "RuntimeServices") 0
-    ∷ uint64 96 (codes "BootServices") boot_table_at
+    ∷ uint64 96 (codes "BootServices") BOOT_TABLE
     ∷ uint64 104 (codes "NumberOfTableEntries") 0
     ∷ uint64 112 (codes "ConfigurationTable") 0
     ∷ []
 
 -- each boot service's address
 abbrev pub service_field : Row → Field
-service_field entry = uint64 entry.offset entry.name (boot_base + entry.offset)
+service_field entry = uint64 entry.offset entry.name (BOOT_SERVICES + entry.offset)
 
 abbrev pub service_fields : List Row → List Field
 service_fields rows = map service_field rows
 
--- bytes with others in the place of those from an offset on
-unfoldable pub put : ℕ → List ℕ → List ℕ → List ℕ
-put offset field bytes = take offset bytes ++ field ++ drop (offset + length field) bytes
-
--- bytes with a number of n bytes there
-abbrev pub put_number : ℕ → ℕ → ℕ → List ℕ → List ℕ
-put_number offset n value bytes = put offset (little_bytes n value) bytes
-
-abbrev pub put_all : List Field → List ℕ → List ℕ
-put_all [] bytes = bytes
-put_all (field ∷ fields) bytes = put_all fields (put field.offset field.bytes bytes)
-
--- the system table, and the 8 bytes behind it, in which the vendor's string is empty
+-- the system table, and the 8 bytes after it, in which the vendor's string is empty
 unfoldable pub system_table : List ℕ
 system_table = put_all (header_fields system_signature system_table_size ++ system_fields) (replicate (system_table_size + 8) 0)
 

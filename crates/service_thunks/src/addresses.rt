@@ -1,15 +1,13 @@
 ghost use Rattle.std.specs.Prelude.{◌≡◌, Some, nat_eq, slice_get, true};
 ghost use Rattle.std.specs.Map.{lookup};
-ghost use Rattle.service_thunks.specs.Placed.{placed};
+ghost use Rattle.service_thunks.specs.Placed.{by_place};
 ghost use Rattle.service_thunks.specs.Services.{is_built, service_of};
 
 use crate::service::Service;
+use guest_memory::address_map::{BOOT_SERVICES, PCI_IO_FUNCTIONS};
 
-/// The address of the first boot service.
-const FIRST_SERVICE: u64 = 0x2_0018;
-
-/// The address of the first function of PCI I/O.
-const PCI_IO: u64 = 0x2_1000;
+/// The address of the first boot service, whose entry comes after the header of the table.
+const FIRST_SERVICE: u64 = BOOT_SERVICES + 24;
 
 /// The boot services in the order of their table.
 const BOOT: [Service; 44] = [
@@ -81,57 +79,58 @@ const PCI: [Service; 18] = [
     Service::Unbuilt,
 ];
 
-/// The service at an address; `None` where none stands there. Takes no memory.
+/// The service at an address, or `None` if there is none. Takes no memory.
 pub fn service_at(at: u64) -> Option<Service>
     ensures { result ≡ service_of at }
 {
     match placed_at(&BOOT, FIRST_SERVICE, at) {
         Some(service) => Some(service),
-        None => placed_at(&PCI, PCI_IO, at),
+        None => placed_at(&PCI, PCI_IO_FUNCTIONS, at),
     }
 }
 
-/// The address at which a service stands that this firmware has. Takes no memory.
+/// The address of a service that this firmware has. Takes no memory.
 #[tactic(auto, unfolding(crate::specs::Services::service_of))]
 pub fn address_of(s: Service) -> u64
     requires { is_built s ≡ true }
     ensures { service_of result ≡ Some s }
 {
     match s {
-        Service::RaiseTpl => 0x2_0018,
-        Service::RestoreTpl => 0x2_0020,
-        Service::AllocatePool => 0x2_0040,
-        Service::FreePool => 0x2_0048,
-        Service::Install => 0x2_0080,
-        Service::Uninstall => 0x2_0090,
-        Service::HandleProtocol => 0x2_0098,
-        Service::LocateHandle => 0x2_00b0,
-        Service::Stall => 0x2_00f8,
-        Service::ConnectController => 0x2_0108,
-        Service::DisconnectController => 0x2_0110,
-        Service::OpenProtocol => 0x2_0118,
-        Service::CloseProtocol => 0x2_0120,
-        Service::OpenProtocolInformation => 0x2_0128,
-        Service::ProtocolsPerHandle => 0x2_0130,
-        Service::LocateHandleBuffer => 0x2_0138,
-        Service::LocateProtocol => 0x2_0140,
-        Service::InstallMultiple => 0x2_0148,
-        Service::UninstallMultiple => 0x2_0150,
-        Service::CopyMem => 0x2_0160,
-        Service::SetMem => 0x2_0168,
-        Service::MemRead => 0x2_1010,
-        Service::MemWrite => 0x2_1018,
-        Service::PciRead => 0x2_1030,
-        Service::PciWrite => 0x2_1038,
-        Service::GetLocation => 0x2_1070,
-        Service::Attributes => 0x2_1078,
+        Service::RaiseTpl => BOOT_SERVICES + 24,
+        Service::RestoreTpl => BOOT_SERVICES + 32,
+        Service::AllocatePool => BOOT_SERVICES + 64,
+        Service::FreePool => BOOT_SERVICES + 72,
+        Service::Install => BOOT_SERVICES + 128,
+        Service::Uninstall => BOOT_SERVICES + 144,
+        Service::HandleProtocol => BOOT_SERVICES + 152,
+        Service::LocateHandle => BOOT_SERVICES + 176,
+        Service::Stall => BOOT_SERVICES + 248,
+        Service::ConnectController => BOOT_SERVICES + 264,
+        Service::DisconnectController => BOOT_SERVICES + 272,
+        Service::OpenProtocol => BOOT_SERVICES + 280,
+        Service::CloseProtocol => BOOT_SERVICES + 288,
+        Service::OpenProtocolInformation => BOOT_SERVICES + 296,
+        Service::ProtocolsPerHandle => BOOT_SERVICES + 304,
+        Service::LocateHandleBuffer => BOOT_SERVICES + 312,
+        Service::LocateProtocol => BOOT_SERVICES + 320,
+        Service::InstallMultiple => BOOT_SERVICES + 328,
+        Service::UninstallMultiple => BOOT_SERVICES + 336,
+        Service::CopyMem => BOOT_SERVICES + 352,
+        Service::SetMem => BOOT_SERVICES + 360,
+        Service::MemRead => PCI_IO_FUNCTIONS + 16,
+        Service::MemWrite => PCI_IO_FUNCTIONS + 24,
+        Service::PciRead => PCI_IO_FUNCTIONS + 48,
+        Service::PciWrite => PCI_IO_FUNCTIONS + 56,
+        Service::GetLocation => PCI_IO_FUNCTIONS + 112,
+        Service::Attributes => PCI_IO_FUNCTIONS + 120,
         Service::Unbuilt => unreachable!(),
     }
 }
 
-/// The service at an address, where services stand 8 bytes apart from the address `from` on.
+/// The service at an address, if services have addresses 8 bytes apart, of which `from` is the
+/// first.
 fn placed_at(services: &[Service], from: u64, at: u64) -> Option<Service>
-    ensures { result ≡ lookup (nat_eq at) (placed from services.now) }
+    ensures { result ≡ lookup (nat_eq at) (by_place from services.now) }
 {
     if at < from || (at - from) % 8 != 0 {
         return None;
@@ -139,6 +138,7 @@ fn placed_at(services: &[Service], from: u64, at: u64) -> Option<Service>
     nth(services, ((at - from) / 8) as usize)
 }
 
+/// The service at a place of a list.
 fn nth(services: &[Service], place: usize) -> Option<Service>
     ensures { result ≡ slice_get services.now place }
 {

@@ -3,10 +3,10 @@ ghost use Rattle.service_thunks.specs.Arguments.{arguments, most_arguments};
 
 use guest_memory::GuestMem;
 
-/// The first `n` arguments of a native call, at most 16, and 0 for the others. `sp` is the caller's R0,
-/// from which on they stand, 8 bytes each; addresses wrap in 64 bits.
+/// The first `n` arguments of a native call, at most 16, and 0 for the others. `sp` is the caller's
+/// R0; the arguments lie from there on, 8 bytes each. Addresses wrap in 64 bits.
 ///
-/// `None` where one of the `n` can't be read. Takes no memory.
+/// `None` if one of the `n` can't be read. Takes no memory.
 pub fn args<M: GuestMem>(mem: &M, sp: u64, n: u8) -> Option<[u64; 16]>
     requires { n ≤ most_arguments }
     ensures { result ≡ arguments (M.segments mem.now) sp n }

@@ -2,12 +2,12 @@
 
 ghost use Rattle.service_thunks.specs.Services.{OneAddress, ServiceAddresses};
 
-/// A service that this firmware has stands at one address.
+/// A service that this firmware has is at one address.
 pub fn one_address()
     ensures { OneAddress }
 {}
 
-/// A service stands at each entry of the two tables, and nowhere else.
+/// There is a service for each entry of the two tables, and nowhere else.
 pub fn service_addresses()
     ensures { ServiceAddresses }
 {}

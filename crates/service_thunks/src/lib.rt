@@ -1,8 +1,8 @@
 //! The firmware's tables, the services at their addresses, and the arguments of a call.
 //!
-//! A driver finds the boot services by the system table, and the functions of PCI I/O by an interface
-//! of that protocol. All are addresses at which no memory is mapped: a native call to one asks for the
-//! service that `service_at` names, with the arguments that `args` reads.
+//! A driver finds the boot services by the system table, and the functions of PCI I/O by an
+//! interface of that protocol. All are addresses at which no memory is mapped: a native call to one
+//! asks for the service that `service_at` names, with the arguments that `args` reads.
 #![tactic(auto)]
 
 mod addresses;

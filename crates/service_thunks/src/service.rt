@@ -1,5 +1,5 @@
-/// What a native call to one of the firmware's addresses asks for: a boot service (UEFI 2.8, 'EFI Boot
-/// Services Table') or a function of PCI I/O (UEFI 2.8, 'EFI PCI I/O Protocol').
+/// What a native call to one of the firmware's addresses asks for: a boot service (UEFI 2.8, 4.4:
+/// EFI Boot Services Table) or a function of PCI I/O (UEFI 2.8, 14.4: EFI PCI I/O Protocol).
 #[derive(Clone, Copy, Debug, PartialEq, Eq)]
 pub enum Service {
     /// RaiseTPL.

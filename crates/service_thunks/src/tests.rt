@@ -2,7 +2,7 @@ use crate::{Service, address_of, args, boot_table, service_at, system_table};
 use guest_memory::{GuestMem, Memory, SegKind};
 use std::test::Fail;
 
-/// The bytes of the system table and of the vendor's empty name behind it.
+/// The bytes of the system table and of the vendor's empty name after it.
 #[test]
 fn system_table_bytes(rt: HostRuntime) {
     let rows: [[u8; 8]; 16] = [
@@ -80,7 +80,7 @@ const BUILT: [(u64, Service); 27] = [
     (0x2_1000 + 120, Service::Attributes),
 ];
 
-/// Where each service stands, and what stands elsewhere.
+/// The address of each service, and what is at other addresses.
 #[test]
 fn services_and_addresses(rt: HostRuntime) {
     for (at, service) in BUILT {
@@ -109,7 +109,7 @@ fn services_and_addresses(rt: HostRuntime) {
     }
 }
 
-/// Slots of a stack of 128 bytes, on which the first 16 numbers stand.
+/// Slots of a stack of 128 bytes, which hold the numbers from 1 to 16.
 #[test]
 fn arguments(rt: HostRuntime) -> Result<(), Fail> {
     let mut memory = Memory::new(rt.alloc());
@@ -121,7 +121,7 @@ fn arguments(rt: HostRuntime) -> Result<(), Fail> {
     assert_eq!(rt; args(&memory, 0x1000, 16), Some(all));
     let three = [1, 2, 3, 0, 0, 0, 0, 0, 0, 0, 0, 0, 0, 0, 0, 0];
     assert_eq!(rt; args(&memory, 0x1000, 3), Some(three));
-    // no slot is looked at, and one behind the stack
+    // no slot is read, and then one after the stack
     assert_eq!(rt; args(&memory, 0, 0), Some([0; 16]));
     assert_eq!(rt; args(&memory, 0x1008, 16), None);
     assert_eq!(rt; args(&memory, 0xffff_ffff_ffff_fff8, 2), None);

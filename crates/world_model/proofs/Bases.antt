@@ -9,9 +9,9 @@ use Rattle.guest_memory.specs.declared.segment.SegKind.TheVariants as kind
 use Rattle.guest_memory.specs.Segment.{end_of, has_bytes, with_number}
 use Rattle.guest_memory.specs.GuestMemory.{begins, is_of, kind_number, lie_from, mapped, put_bytes, unmapped, written}
 use Rattle.guest_memory.proofs.PutLemmas.{parts-put_bytes}
-use Rattle.world_model.specs.declared.addresses.TheConstants.{FIRST_IMAGE}
+use Rattle.guest_memory.specs.declared.address_map.TheConstants.{FIRST_IMAGE}
 use Rattle.world_model.specs.World.{bases}
-use Rattle.world_model.specs.Kept.{is_placed, lies_right}
+use Rattle.world_model.specs.Kept.{is_placed, is_in_region}
 
 pub bases-cons : (of : SegKind) (is : Bool) (s : Segment) (segments : List Segment) → is_of of s ≡ is → bases of (s ∷ segments) ≡ cond is (s.base ∷ bases of segments) (bases of segments)
 bases-cons of true s segments h = rw h refl
@@ -113,7 +113,7 @@ bases-unmapped of base from (s ∷ rest) lies =
 none_behind-more : (next block : ℕ) (s : Segment) → is_placed next block s ≡ true → next ≤ s.base → is_of kind.Image s ≡ false
 none_behind-more next block s right behind = none next block s.kind s.base (length s.bytes) right behind
   where
-    none : (next block : ℕ) (kind : SegKind) (base size : ℕ) → lies_right next block kind base size ≡ true → next ≤ base → nat_eq (kind_number kind) 0 ≡ false
+    none : (next block : ℕ) (kind : SegKind) (base size : ℕ) → is_in_region next block kind base size ≡ true → next ≤ base → nat_eq (kind_number kind) 0 ≡ false
     none next block kind.Image base size right behind = grind (arith, nat_tests)
     none next block kind.Pool base size right behind = refl
     none next block kind.Firmware base size right behind = refl
@@ -163,7 +163,7 @@ no_image next block base (s ∷ rest) placed away =
     let parts = and_parts (is_placed next block s) (list_all (is_placed next block) rest) placed in
     or_from (nat_eq s.base base && is_of kind.Image s) (begins kind.Image base rest) (other next block base s.kind s.base (length s.bytes) parts.0 away) (no_image next block base rest parts.1 away)
   where
-    other : (next block at : ℕ) (kind : SegKind) (base size : ℕ) → lies_right next block kind base size ≡ true → (at < FIRST_IMAGE) ⊎ (next ≤ at) → (nat_eq base at && nat_eq (kind_number kind) 0) ≡ false
+    other : (next block at : ℕ) (kind : SegKind) (base size : ℕ) → is_in_region next block kind base size ≡ true → (at < FIRST_IMAGE) ⊎ (next ≤ at) → (nat_eq base at && nat_eq (kind_number kind) 0) ≡ false
     other next block at kind.Image base size right (inl before) = grind (arith, nat_tests)
     other next block at kind.Image base size right (inr behind) = grind (arith, nat_tests)
     other next block at kind.Pool base size right away = and_right (nat_eq base at) false refl

@@ -6,8 +6,8 @@ use Rattle.std.proofs.lemmas.Bool.{and_cases, cases_Bool, both_ways}
 use Rattle.std.proofs.lemmas.Bool.Decides.{nat_tests}
 use Rattle.std.proofs.lemmas.List.Folds.{find-append}
 use Rattle.std.proofs.lemmas.Slice.Eq.{bytes_eq-Decides}
-use Rattle.handle_db.specs.declared.entry.Entry.{Entry}
-use Rattle.handle_db.specs.declared.entry.Interface.{Interface}
+use Rattle.handle_db.specs.declared.handle_entry.HandleEntry.{HandleEntry}
+use Rattle.handle_db.specs.declared.handle_entry.Interface.{Interface}
 use Rattle.handle_db.specs.Database.{Database, has_any, interfaces_in, is_guid, is_handle}
 use Rattle.handle_db.specs.Installing.{appended, installed, new_entry}
 use Rattle.handle_db.specs.Removing.{removed, without_guid, without_interface}
@@ -17,7 +17,7 @@ use Rattle.world_model.specs.Kept.{has_interface, is_address}
 abbrev found_as : ℕ → ℕ → Option Interface → Bool
 found_as address owner found = is_address address owner (option_map (λ (i : Interface). (i.interface, i.owner)) found)
 
-abbrev listed_as : List ℕ → ℕ → ℕ → Option Entry → Bool
+abbrev listed_as : List ℕ → ℕ → ℕ → Option HandleEntry → Bool
 listed_as guid address owner entry = found_as address owner (find (is_guid guid) (interfaces_in entry))
 
 -- ---- installing
@@ -31,39 +31,39 @@ more_interfaces guid address owner interfaces new has =
     by_found None has = absurd cc
     by_found (Some i) has = has
 
-more_entries : (handle : ℕ) (guid : List ℕ) (address owner : ℕ) (entries : List Entry) (new : Entry) → listed_as guid address owner (find (is_handle handle) entries) ≡ true
+more_entries : (handle : ℕ) (guid : List ℕ) (address owner : ℕ) (entries : List HandleEntry) (new : HandleEntry) → listed_as guid address owner (find (is_handle handle) entries) ≡ true
     → listed_as guid address owner (find (is_handle handle) (entries ++ new ∷ [])) ≡ true
 more_entries handle guid address owner entries new has =
     ap (listed_as guid address owner) (find-append (is_handle handle) entries (new ∷ [])) ∙ by_found (find (is_handle handle) entries) has
   where
-    by_found : (found : Option Entry) → listed_as guid address owner found ≡ true → listed_as guid address owner (option_or found (find (is_handle handle) (new ∷ []))) ≡ true
+    by_found : (found : Option HandleEntry) → listed_as guid address owner found ≡ true → listed_as guid address owner (option_or found (find (is_handle handle) (new ∷ []))) ≡ true
     by_found None has = absurd cc
     by_found (Some i) has = has
 
-appended_one : (guid : List ℕ) (address owner : ℕ) (entry : Entry) (new : Interface) (here : Bool) → listed_as guid address owner (Some entry) ≡ true
+appended_one : (guid : List ℕ) (address owner : ℕ) (entry : HandleEntry) (new : Interface) (here : Bool) → listed_as guid address owner (Some entry) ≡ true
     → listed_as guid address owner (Some (if here then appended new entry else entry)) ≡ true
 appended_one guid address owner entry new true has = more_interfaces guid address owner entry.interfaces new has
 appended_one guid address owner entry new false has = has
 
 -- the handle of an entry that is changed or not
-handle_if : (b : Bool) (one two : Entry) → one.handle ≡ two.handle → (if b then one else two).handle ≡ two.handle
+handle_if : (b : Bool) (one two : HandleEntry) → one.handle ≡ two.handle → (if b then one else two).handle ≡ two.handle
 handle_if true one two same = same
 handle_if false one two same = refl
 
-found_appended : (handle changed : ℕ) (guid : List ℕ) (address owner : ℕ) (entries : List Entry) (new : Interface) → listed_as guid address owner (find (is_handle handle) entries) ≡ true
-    → listed_as guid address owner (find (is_handle handle) (map (λ (entry : Entry). if is_handle changed entry then appended new entry else entry) entries)) ≡ true
+found_appended : (handle changed : ℕ) (guid : List ℕ) (address owner : ℕ) (entries : List HandleEntry) (new : Interface) → listed_as guid address owner (find (is_handle handle) entries) ≡ true
+    → listed_as guid address owner (find (is_handle handle) (map (λ (entry : HandleEntry). if is_handle changed entry then appended new entry else entry) entries)) ≡ true
 found_appended handle changed guid address owner [] new has = has
 found_appended handle changed guid address owner (entry ∷ entries) new has =
-    let one : Entry = if is_handle changed entry then appended new entry else entry in
+    let one : HandleEntry = if is_handle changed entry then appended new entry else entry in
     let same : is_handle handle one ≡ is_handle handle entry = ap (λ number. nat_eq number handle) (handle_if (is_handle changed entry) (appended new entry) entry refl) in
-    ap (λ b. listed_as guid address owner (cond b (Some one) (find (is_handle handle) (map (λ (entry : Entry). if is_handle changed entry then appended new entry else entry) entries)))) same
+    ap (λ b. listed_as guid address owner (cond b (Some one) (find (is_handle handle) (map (λ (entry : HandleEntry). if is_handle changed entry then appended new entry else entry) entries)))) same
     ∙ by_head (is_handle handle entry) (λ later. found_appended handle changed guid address owner entries new later) has
   where
     by_head : (here : Bool)
         → (listed_as guid address owner (find (is_handle handle) entries) ≡ true
-        → listed_as guid address owner (find (is_handle handle) (map (λ (entry : Entry). if is_handle changed entry then appended new entry else entry) entries)) ≡ true)
+        → listed_as guid address owner (find (is_handle handle) (map (λ (entry : HandleEntry). if is_handle changed entry then appended new entry else entry) entries)) ≡ true)
         → listed_as guid address owner (cond here (Some entry) (find (is_handle handle) entries)) ≡ true
-        → listed_as guid address owner (cond here (Some (if is_handle changed entry then appended new entry else entry)) (find (is_handle handle) (map (λ (entry : Entry). if is_handle changed entry then appended new entry else entry) entries))) ≡ true
+        → listed_as guid address owner (cond here (Some (if is_handle changed entry then appended new entry else entry)) (find (is_handle handle) (map (λ (entry : HandleEntry). if is_handle changed entry then appended new entry else entry) entries))) ≡ true
     by_head true later has = appended_one guid address owner entry new (is_handle changed entry) has
     by_head false later has = later has
 
@@ -91,60 +91,60 @@ other_guid one two i differ is = elim (cases_Bool (is_guid two i)) [
   | inr other ↦ other
 ]
 
-find-others : (guid gone : List ℕ) (interfaces : List Interface) → bytes_eq guid gone ≡ false → find (is_guid guid) (filter (λ (i : Interface). not (is_guid gone i)) interfaces) ≡ find (is_guid guid) interfaces
-find-others guid gone [] differ = refl
-find-others guid gone (i ∷ interfaces) differ = by_head (is_guid guid i) (is_guid gone i) refl refl (find-others guid gone interfaces differ)
+find-others : (guid dropped : List ℕ) (interfaces : List Interface) → bytes_eq guid dropped ≡ false → find (is_guid guid) (filter (λ (i : Interface). not (is_guid dropped i)) interfaces) ≡ find (is_guid guid) interfaces
+find-others guid dropped [] differ = refl
+find-others guid dropped (i ∷ interfaces) differ = by_head (is_guid guid i) (is_guid dropped i) refl refl (find-others guid dropped interfaces differ)
   where
-    by_head : (here there : Bool) → is_guid guid i ≡ here → is_guid gone i ≡ there
-        → find (is_guid guid) (filter (λ (i : Interface). not (is_guid gone i)) interfaces) ≡ find (is_guid guid) interfaces
-        → find (is_guid guid) (cond (not there) (i ∷ filter (λ (i : Interface). not (is_guid gone i)) interfaces) (filter (λ (i : Interface). not (is_guid gone i)) interfaces)) ≡ cond here (Some i) (find (is_guid guid) interfaces)
-    by_head true true h t later = absurd (both_ways (is_guid gone i) (other_guid guid gone i differ h) t)
+    by_head : (here there : Bool) → is_guid guid i ≡ here → is_guid dropped i ≡ there
+        → find (is_guid guid) (filter (λ (i : Interface). not (is_guid dropped i)) interfaces) ≡ find (is_guid guid) interfaces
+        → find (is_guid guid) (cond (not there) (i ∷ filter (λ (i : Interface). not (is_guid dropped i)) interfaces) (filter (λ (i : Interface). not (is_guid dropped i)) interfaces)) ≡ cond here (Some i) (find (is_guid guid) interfaces)
+    by_head true true h t later = absurd (both_ways (is_guid dropped i) (other_guid guid dropped i differ h) t)
     by_head true false h t later = rw h refl
     by_head false true h t later = later
     by_head false false h t later = rw h later
 
 -- an entry that lists an interface has one
-some_listed : (guid : List ℕ) (address owner : ℕ) (entry : Entry) → listed_as guid address owner (Some entry) ≡ true → has_any entry ≡ true
+some_listed : (guid : List ℕ) (address owner : ℕ) (entry : HandleEntry) → listed_as guid address owner (Some entry) ≡ true → has_any entry ≡ true
 some_listed guid address owner entry has = by_list entry.interfaces has
   where
     by_list : (interfaces : List Interface) → found_as address owner (find (is_guid guid) interfaces) ≡ true → nat_lt 0 (length interfaces) ≡ true
     by_list [] has = absurd cc
     by_list (i ∷ interfaces) has = grind (arith, nat_tests)
 
-kept_entry : (handle changed : ℕ) (guid gone : List ℕ) (address owner : ℕ) (entry : Entry) (here : Bool) → is_handle changed entry ≡ here → is_handle handle entry ≡ true → (bytes_eq guid gone && nat_eq handle changed) ≡ false
-    → listed_as guid address owner (Some entry) ≡ true → listed_as guid address owner (Some (if here then without_guid gone entry else entry)) ≡ true
-kept_entry handle changed guid gone address owner entry true at is other has =
+kept_entry : (handle changed : ℕ) (guid dropped : List ℕ) (address owner : ℕ) (entry : HandleEntry) (here : Bool) → is_handle changed entry ≡ here → is_handle handle entry ≡ true → (bytes_eq guid dropped && nat_eq handle changed) ≡ false
+    → listed_as guid address owner (Some entry) ≡ true → listed_as guid address owner (Some (if here then without_guid dropped entry else entry)) ≡ true
+kept_entry handle changed guid dropped address owner entry true at is other has =
     let same : nat_eq handle changed ≡ true = grind (arith, nat_tests, at, is) in
-    let differ : bytes_eq guid gone ≡ false = elim (and_cases (bytes_eq guid gone) (nat_eq handle changed) other) [ inl differ ↦ differ | inr apart ↦ absurd (both_ways (nat_eq handle changed) apart same) ] in
-    ap (found_as address owner) (find-others guid gone entry.interfaces differ) ∙ has
-kept_entry handle changed guid gone address owner entry false at is other has = has
+    let differ : bytes_eq guid dropped ≡ false = elim (and_cases (bytes_eq guid dropped) (nat_eq handle changed) other) [ inl differ ↦ differ | inr apart ↦ absurd (both_ways (nat_eq handle changed) apart same) ] in
+    ap (found_as address owner) (find-others guid dropped entry.interfaces differ) ∙ has
+kept_entry handle changed guid dropped address owner entry false at is other has = has
 
-found_removed : (handle changed : ℕ) (guid gone : List ℕ) (address owner : ℕ) (entries : List Entry) → (bytes_eq guid gone && nat_eq handle changed) ≡ false
-    → listed_as guid address owner (find (is_handle handle) entries) ≡ true → listed_as guid address owner (find (is_handle handle) (without_interface changed gone entries)) ≡ true
-found_removed handle changed guid gone address owner [] other has = has
-found_removed handle changed guid gone address owner (entry ∷ entries) other has =
-    by_head (is_handle handle entry) refl (λ later. found_removed handle changed guid gone address owner entries other later) has
+found_removed : (handle changed : ℕ) (guid dropped : List ℕ) (address owner : ℕ) (entries : List HandleEntry) → (bytes_eq guid dropped && nat_eq handle changed) ≡ false
+    → listed_as guid address owner (find (is_handle handle) entries) ≡ true → listed_as guid address owner (find (is_handle handle) (without_interface changed dropped entries)) ≡ true
+found_removed handle changed guid dropped address owner [] other has = has
+found_removed handle changed guid dropped address owner (entry ∷ entries) other has =
+    by_head (is_handle handle entry) refl (λ later. found_removed handle changed guid dropped address owner entries other later) has
   where
-    one : Entry
-    one = if is_handle changed entry then without_guid gone entry else entry
+    one : HandleEntry
+    one = if is_handle changed entry then without_guid dropped entry else entry
 
     same : is_handle handle one ≡ is_handle handle entry
-    same = ap (λ number. nat_eq number handle) (handle_if (is_handle changed entry) (without_guid gone entry) entry refl)
+    same = ap (λ number. nat_eq number handle) (handle_if (is_handle changed entry) (without_guid dropped entry) entry refl)
 
     by_head : (here : Bool) → is_handle handle entry ≡ here
-        → (listed_as guid address owner (find (is_handle handle) entries) ≡ true → listed_as guid address owner (find (is_handle handle) (without_interface changed gone entries)) ≡ true)
+        → (listed_as guid address owner (find (is_handle handle) entries) ≡ true → listed_as guid address owner (find (is_handle handle) (without_interface changed dropped entries)) ≡ true)
         → listed_as guid address owner (cond here (Some entry) (find (is_handle handle) entries)) ≡ true
-        → listed_as guid address owner (find (is_handle handle) (without_interface changed gone (entry ∷ entries))) ≡ true
+        → listed_as guid address owner (find (is_handle handle) (without_interface changed dropped (entry ∷ entries))) ≡ true
     by_head true is later has =
-        let kept : listed_as guid address owner (Some one) ≡ true = kept_entry handle changed guid gone address owner entry (is_handle changed entry) refl is other has in
+        let kept : listed_as guid address owner (Some one) ≡ true = kept_entry handle changed guid dropped address owner entry (is_handle changed entry) refl is other has in
         let any : has_any one ≡ true = some_listed guid address owner one kept in
         rw (any, same ∙ is) kept
     by_head false is later has =
-        elim (has_any one) as (λ b. listed_as guid address owner (find (is_handle handle) (cond b (one ∷ without_interface changed gone entries) (without_interface changed gone entries))) ≡ true) [
+        elim (has_any one) as (λ b. listed_as guid address owner (find (is_handle handle) (cond b (one ∷ without_interface changed dropped entries) (without_interface changed dropped entries))) ≡ true) [
           | true ↦ rw (same ∙ is) (later has)
           | false ↦ later has
         ]
 
-pub has-removed : (db : Database) (changed : ℕ) (gone : List ℕ) (handle : ℕ) (guid : List ℕ) (address owner : ℕ) → (bytes_eq guid gone && nat_eq handle changed) ≡ false
-    → has_interface db handle guid address owner ≡ true → has_interface (removed changed gone db) handle guid address owner ≡ true
-has-removed db changed gone handle guid address owner other has = found_removed handle changed guid gone address owner db.handles other has
+pub has-removed : (db : Database) (changed : ℕ) (dropped : List ℕ) (handle : ℕ) (guid : List ℕ) (address owner : ℕ) → (bytes_eq guid dropped && nat_eq handle changed) ≡ false
+    → has_interface db handle guid address owner ≡ true → has_interface (removed changed dropped db) handle guid address owner ≡ true
+has-removed db changed dropped handle guid address owner other has = found_removed handle changed guid dropped address owner db.handles other has

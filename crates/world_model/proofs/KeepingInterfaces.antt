@@ -6,21 +6,20 @@ use Rattle.std.proofs.lemmas.Bool.Decides.{nat_tests}
 use Rattle.std.proofs.lemmas.Slice.Eq.{bytes_eq-Decides}
 use Rattle.fw_types.specs.Guid.{known_guid}
 use Rattle.fw_types.specs.declared.guid.Known.TheVariants.{LoadedImage as LoadedImageProtocol, DriverBinding}
-use Rattle.handle_db.specs.declared.entry.Interface.{Interface}
+use Rattle.handle_db.specs.declared.handle_entry.Interface.{Interface}
 use Rattle.handle_db.specs.Database.{Database}
 use Rattle.handle_db.specs.Installing.{installed}
 use Rattle.handle_db.specs.Removing.{removed}
 use Rattle.handle_db.proofs.Keeping.{installing as installing_sound, removing as removing_sound}
-use Rattle.world_model.specs.declared.addresses.TheConstants.{BUS_BINDING, FIRMWARE_IMAGE, FIRST_BLOCK, FIRST_IMAGE}
+use Rattle.guest_memory.specs.declared.address_map.TheConstants.{BUS_BINDING, FIRMWARE_IMAGE, FIRST_BLOCK, FIRST_IMAGE}
 use Rattle.world_model.specs.declared.image.LoadedImage.{LoadedImage}
 use Rattle.world_model.specs.Interfaces.{bus_driver, firmware, is_image}
 use Rattle.world_model.specs.Kept.{is_installed}
 use Rattle.world_model.specs.Keeping.{InstallingKeeps, UninstallingKeeps}
 use Rattle.world_model.proofs.Segments.{list_all-mono, list_all-not, list_all-both}
 use Rattle.world_model.proofs.Databases.{has-installed, has-removed}
-use Rattle.world_model.proofs.Opened.{opens-installed, opens-removed}
-use Rattle.world_model.proofs.Loaded.{rise-later}
-use Rattle.world_model.proofs.KeepingRecords.{opens_of}
+use Rattle.world_model.proofs.RecordParties.{records-installed, records-removed}
+use Rattle.world_model.proofs.ImageLists.{images_rise-later}
 
 -- installing leaves the interfaces of images
 pub installed-more : (db : Database) (who : Option ℕ) (new : Interface) (images : List LoadedImage) → list_all (is_installed db) images ≡ true → list_all (is_installed (installed who new db)) images ≡ true
@@ -41,29 +40,25 @@ pub installing : InstallingKeeps
 installing soft who new kept accepted =
     let db = soft.database in
     record {
-      apart = kept.apart;
-      placed = kept.placed;
-      tables = kept.tables;
-      lists = kept.lists;
-      images = kept.images;
-      entries = kept.entries;
-      blocks = kept.blocks;
-      rising =
-          rise-later 3 FIRST_IMAGE FIRST_BLOCK soft.images db.next soft.next_image soft.next_block (installed who new db).next soft.next_image soft.next_block kept.rising
-          (record { handles = next-later who new db; bases = omega arith; blocks = omega arith });
-      sound = installing_sound who new db kept.sound accepted;
-      limit = limit-installed who new db ∙ kept.limit;
-      firmware_there = has-installed db who new firmware (known_guid LoadedImageProtocol) FIRMWARE_IMAGE firmware kept.firmware_there;
-      bus_driver_there = has-installed db who new bus_driver (known_guid DriverBinding) BUS_BINDING firmware kept.bus_driver_there;
-      installed = installed-more db who new soft.images kept.installed;
-      entered = kept.entered;
-      numbered = kept.numbered;
-      records = kept.records;
-      records_limit = kept.records_limit;
-      opened = (opens-installed who new db soft.records (opens_of soft kept)).opened;
-      image_range = kept.image_range;
-      block_range = kept.block_range;
-      thunk_range = kept.thunk_range;
+      memory = kept.memory;
+      images = record {
+        segments = kept.images.segments;
+        entry_points = kept.images.entry_points;
+        blocks = kept.images.blocks;
+        rising =
+            images_rise-later 3 FIRST_IMAGE FIRST_BLOCK soft.images db.next soft.next_image soft.next_block (installed who new db).next soft.next_image soft.next_block kept.images.rising
+            (record { handles = next-later who new db; bases = omega arith; blocks = omega arith });
+      };
+      database = record {
+        sound = installing_sound who new db kept.database.sound accepted;
+        limit = limit-installed who new db ∙ kept.database.limit;
+        firmware_there = has-installed db who new firmware (known_guid LoadedImageProtocol) FIRMWARE_IMAGE firmware kept.database.firmware_there;
+        bus_driver_there = has-installed db who new bus_driver (known_guid DriverBinding) BUS_BINDING firmware kept.database.bus_driver_there;
+        installed = installed-more db who new soft.images kept.database.installed;
+      };
+      thunks = kept.thunks;
+      records = records-installed who new db soft.records kept.records;
+      ranges = kept.ranges;
     }
 
 -- ---- uninstalling
@@ -96,29 +91,20 @@ uninstalling soft handle guid kept lasting =
     let image_guid = known_guid LoadedImageProtocol in
     let parts = or_parts (bytes_eq guid image_guid && (nat_eq handle firmware || is_image handle soft.images)) (bytes_eq guid (known_guid DriverBinding) && nat_eq handle bus_driver) lasting in
     let two = both_fail (bytes_eq guid image_guid) (nat_eq handle firmware) (is_image handle soft.images) parts.0 in
-    let opens = opens-removed handle guid db soft.records kept.sound (opens_of soft kept) in
+    let opens = records-removed handle guid db soft.records kept.database.sound kept.records in
     record {
-      apart = kept.apart;
-      placed = kept.placed;
-      tables = kept.tables;
-      lists = kept.lists;
+      memory = kept.memory;
       images = kept.images;
-      entries = kept.entries;
-      blocks = kept.blocks;
-      rising = kept.rising;
-      sound = removing_sound handle guid db kept.sound;
-      limit = kept.limit;
-      firmware_there = has-removed db handle guid firmware image_guid FIRMWARE_IMAGE firmware (lasts guid image_guid handle firmware two.0) kept.firmware_there;
-      bus_driver_there = has-removed db handle guid bus_driver (known_guid DriverBinding) BUS_BINDING firmware (lasts guid (known_guid DriverBinding) handle bus_driver parts.1) kept.bus_driver_there;
-      installed = by_guid (bytes_eq guid image_guid) refl two.1;
-      entered = kept.entered;
-      numbered = kept.numbered;
-      records = opens.sound;
-      records_limit = opens.limit;
-      opened = opens.opened;
-      image_range = kept.image_range;
-      block_range = kept.block_range;
-      thunk_range = kept.thunk_range;
+      database = record {
+        sound = removing_sound handle guid db kept.database.sound;
+        limit = kept.database.limit;
+        firmware_there = has-removed db handle guid firmware image_guid FIRMWARE_IMAGE firmware (lasts guid image_guid handle firmware two.0) kept.database.firmware_there;
+        bus_driver_there = has-removed db handle guid bus_driver (known_guid DriverBinding) BUS_BINDING firmware (lasts guid (known_guid DriverBinding) handle bus_driver parts.1) kept.database.bus_driver_there;
+        installed = by_guid (bytes_eq guid image_guid) refl two.1;
+      };
+      thunks = kept.thunks;
+      records = opens;
+      ranges = kept.ranges;
     }
   where
     by_guid : (same : Bool) → bytes_eq guid (known_guid LoadedImageProtocol) ≡ same → (same && is_image handle soft.images) ≡ false → list_all (is_installed (removed handle guid soft.database)) soft.images ≡ true
@@ -126,9 +112,9 @@ uninstalling soft handle guid kept lasting =
         list_all-both (λ (image : LoadedImage). not (nat_eq image.handle handle)) (is_installed soft.database) (is_installed (removed handle guid soft.database)) soft.images
         (λ image other has. has-removed soft.database handle guid image.handle (known_guid LoadedImageProtocol) image.block firmware
         (and_right (bytes_eq (known_guid LoadedImageProtocol) guid) (nat_eq image.handle handle) (not-true (nat_eq image.handle handle) other)) has)
-        (list_all-not (λ (image : LoadedImage). nat_eq image.handle handle) soft.images none) kept.installed
+        (list_all-not (λ (image : LoadedImage). nat_eq image.handle handle) soft.images none) kept.database.installed
     by_guid false same none =
         list_all-mono (is_installed soft.database) (is_installed (removed handle guid soft.database)) soft.images
         (λ image has. has-removed soft.database handle guid image.handle (known_guid LoadedImageProtocol) image.block firmware
         (and_left (bytes_eq (known_guid LoadedImageProtocol) guid) (nat_eq image.handle handle) (bytes-swap guid (known_guid LoadedImageProtocol) false same)) has)
-        kept.installed
+        kept.database.installed

@@ -7,17 +7,17 @@ use Rattle.std.proofs.lemmas.Bool.Decides.{nat_tests}
 use Rattle.std.proofs.lemmas.List.Folds.{list_all-append}
 use Rattle.guest_memory.specs.declared.segment.Segment.{Segment}
 use Rattle.guest_memory.specs.GuestMemory.{image_with}
-use Rattle.world_model.specs.declared.addresses.TheConstants.{MOST_THUNKS}
+use Rattle.fw_types.specs.declared.limits.TheConstants.{MOST_THUNKS}
 use Rattle.world_model.specs.declared.fault.WorldFault.{WorldFault}
 use Rattle.world_model.specs.declared.fault.WorldFault.TheVariants.{Full}
 use Rattle.world_model.specs.declared.image.LoadedImage.{LoadedImage}
 use Rattle.world_model.specs.declared.thunk.Thunk.{Thunk}
 use Rattle.world_model.specs.Images.{image_from}
-use Rattle.world_model.specs.Kept.{is_entered}
+use Rattle.world_model.specs.Kept.{enters_image}
 use Rattle.world_model.specs.Keeping.{MakingKeeps}
-use Rattle.world_model.proofs.Entered.{numbers-push}
+use Rattle.world_model.proofs.ThunkTargets.{numbers-push}
 
--- where an image is told, some segment has the address
+-- where an image is contents, some segment has the address
 some_image : (found : Option Segment) (images : List LoadedImage) → is_some (image_from (option_map (λ (segment : Segment). segment.base) found) images) ≡ true → is_some found ≡ true
 some_image None images some = absurd cc
 some_image (Some segment) images some = refl
@@ -30,30 +30,22 @@ left false address ok = refl
 pub making : MakingKeeps
 making soft entry kept some ok =
     let new : Thunk = record { number = soft.next_thunk; entry = entry } in
-    let here : is_entered soft.memory new ≡ true = some_image (image_with soft.memory entry) soft.images some in
+    let here : enters_image soft.memory new ≡ true = some_image (image_with soft.memory entry) soft.images some in
     let room : soft.next_thunk < MOST_THUNKS = grind (arith, nat_tests, left _ _ ok) in
     record {
-      apart = kept.apart;
-      placed = kept.placed;
-      tables = kept.tables;
-      lists = kept.lists;
+      memory = kept.memory;
       images = kept.images;
-      entries = kept.entries;
-      blocks = kept.blocks;
-      rising = kept.rising;
-      sound = kept.sound;
-      limit = kept.limit;
-      firmware_there = kept.firmware_there;
-      bus_driver_there = kept.bus_driver_there;
-      installed = kept.installed;
-      entered =
-          list_all-append (is_entered soft.memory) soft.thunks (new ∷ [])
-          ∙ and_from (list_all (is_entered soft.memory) soft.thunks) (list_all (is_entered soft.memory) (new ∷ [])) kept.entered (and_from (is_entered soft.memory new) true here refl);
-      numbered = numbers-push 0 soft.thunks new kept.numbered;
+      database = kept.database;
+      thunks = record {
+        targets =
+            list_all-append (enters_image soft.memory) soft.thunks (new ∷ [])
+            ∙ and_from (list_all (enters_image soft.memory) soft.thunks) (list_all (enters_image soft.memory) (new ∷ [])) kept.thunks.targets (and_from (enters_image soft.memory new) true here refl);
+        numbers = numbers-push 0 soft.thunks new kept.thunks.numbers;
+      };
       records = kept.records;
-      records_limit = kept.records_limit;
-      opened = kept.opened;
-      image_range = kept.image_range;
-      block_range = kept.block_range;
-      thunk_range = omega arith;
+      ranges = record {
+        images = kept.ranges.images;
+        blocks = kept.ranges.blocks;
+        thunks = omega arith;
+      };
     }

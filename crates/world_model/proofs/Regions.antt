@@ -7,8 +7,9 @@ use Rattle.guest_memory.specs.declared.segment.SegKind.{SegKind}
 use Rattle.guest_memory.specs.declared.segment.SegKind.TheVariants.{Image, Pool, Firmware, Stack, Table}
 use Rattle.guest_memory.specs.Segment.{end_of, meets}
 use Rattle.guest_memory.specs.GuestMemory.{kind_number}
-use Rattle.world_model.specs.declared.addresses.TheConstants.{CHILD_LISTS, FIRST_BLOCK, FIRST_IMAGE, IMAGE_END, LIST_ROOM, MOST_LEVELS, STACK_SIZE, SYSTEM_TABLE, TABLES_END}
-use Rattle.world_model.specs.Kept.{is_of_level, lies_right}
+use Rattle.fw_types.specs.declared.limits.TheConstants.{MOST_LEVELS}
+use Rattle.guest_memory.specs.declared.address_map.TheConstants.{CHILD_LISTS, FIRST_BLOCK, FIRST_IMAGE, IMAGE_END, LIST_ROOM, STACK_SIZE, SYSTEM_TABLE, TABLES_END}
+use Rattle.world_model.specs.Kept.{is_of_level, is_in_region}
 use Rattle.world_model.specs.Stacks.{list_base, stack_base}
 
 -- two segments, of which one ends before the other begins
@@ -19,7 +20,7 @@ meets-apart a b (inr behind) = grind (arith, nat_tests)
 -- ---- what lies right, by its kind
 
 -- it ends before the next block
-pub before_block : (image block : ℕ) (kind : SegKind) (base size : ℕ) → lies_right image block kind base size ≡ true → image ≤ IMAGE_END → FIRST_BLOCK ≤ block → base + max 1 size ≤ block
+pub before_block : (image block : ℕ) (kind : SegKind) (base size : ℕ) → is_in_region image block kind base size ≡ true → image ≤ IMAGE_END → FIRST_BLOCK ≤ block → base + max 1 size ≤ block
 before_block image block Image base size right low from = grind (arith, nat_tests)
 before_block image block Pool base size right low from = grind (arith, nat_tests)
 before_block image block Firmware base size right low from = grind (arith, nat_tests)
@@ -27,7 +28,7 @@ before_block image block Stack base size right low from = grind (arith, nat_test
 before_block image block Table base size right low from = grind (arith, nat_tests)
 
 -- it ends before the next image, or is a block
-pub around_image : (image block : ℕ) (kind : SegKind) (base size : ℕ) → lies_right image block kind base size ≡ true → FIRST_IMAGE ≤ image → (base + max 1 size ≤ image) ⊎ (FIRST_BLOCK ≤ base)
+pub around_image : (image block : ℕ) (kind : SegKind) (base size : ℕ) → is_in_region image block kind base size ≡ true → FIRST_IMAGE ≤ image → (base + max 1 size ≤ image) ⊎ (FIRST_BLOCK ≤ base)
 around_image image block Image base size right from = inl (grind (arith, nat_tests))
 around_image image block Pool base size right from = inr (grind (arith, nat_tests))
 around_image image block Firmware base size right from = inr (grind (arith, nat_tests))
@@ -37,7 +38,7 @@ around_image image block Table base size right from = inl (grind (arith, nat_tes
 -- ---- levels
 
 -- a segment that lies right and is not the stack of a level does not meet it
-pub around_stack : (image block : ℕ) (level : ℕ) (kind : SegKind) (base size : ℕ) → lies_right image block kind base size ≡ true → 0 < level → level ≤ MOST_LEVELS
+pub around_stack : (image block : ℕ) (level : ℕ) (kind : SegKind) (base size : ℕ) → is_in_region image block kind base size ≡ true → 0 < level → level ≤ MOST_LEVELS
     → (nat_eq base (stack_base level) && nat_eq (kind_number kind) (kind_number Stack)) ≡ false
     → (base + max 1 size ≤ stack_base level) ⊎ (stack_base level + STACK_SIZE ≤ base)
 around_stack image block level Image base size right from to other = inr (grind (arith, nat_tests))
@@ -56,7 +57,7 @@ around_stack image block level Stack base size right from to other =
     ]
 
 -- a segment that lies right and is not the list of children of a level does not meet it
-pub around_list : (image block : ℕ) (level : ℕ) (kind : SegKind) (base size : ℕ) → lies_right image block kind base size ≡ true → 0 < level → level ≤ MOST_LEVELS
+pub around_list : (image block : ℕ) (level : ℕ) (kind : SegKind) (base size : ℕ) → is_in_region image block kind base size ≡ true → 0 < level → level ≤ MOST_LEVELS
     → (nat_eq base (list_base level) && nat_eq (kind_number kind) (kind_number Table)) ≡ false
     → (base + max 1 size ≤ list_base level) ⊎ (list_base level + LIST_ROOM ≤ base)
 around_list image block level Image base size right from to other = inr (grind (arith, nat_tests))

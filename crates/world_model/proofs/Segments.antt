@@ -183,11 +183,11 @@ none_before kind base from (s ∷ rest) lies before =
     rw other (none_before kind base (end_of s) rest order.1 (omega arith))
 
 -- what is unmapped is there no more
-pub gone-unmapped : (kind : SegKind) (base from : ℕ) (segments : List Segment) → lie_from from segments ≡ true → begins kind base (unmapped segments base) ≡ false
-gone-unmapped kind base from [] lies = refl
-gone-unmapped kind base from (s ∷ rest) lies =
+pub none-unmapped : (kind : SegKind) (base from : ℕ) (segments : List Segment) → lie_from from segments ≡ true → begins kind base (unmapped segments base) ≡ false
+none-unmapped kind base from [] lies = refl
+none-unmapped kind base from (s ∷ rest) lies =
     let order = and_parts (nat_le from s.base) (lie_from (end_of s) rest) lies in
-    by_head (nat_eq s.base base) refl order.1 (gone-unmapped kind base (end_of s) rest order.1)
+    by_head (nat_eq s.base base) refl order.1 (none-unmapped kind base (end_of s) rest order.1)
   where
     by_head : (here : Bool) → nat_eq s.base base ≡ here → lie_from (end_of s) rest ≡ true → begins kind base (unmapped rest base) ≡ false → begins kind base (cond here rest (s ∷ unmapped rest base)) ≡ false
     by_head true is lie later = let same : s.base ≡ base = eqb-true s.base base is in none_before kind base (end_of s) rest lie (omega arith)

@@ -6,8 +6,9 @@ use Rattle.std.proofs.lemmas.Bool.Decides.{nat_tests}
 use Rattle.std.proofs.lemmas.List.{length-replicate}
 use Rattle.guest_memory.proofs.SegmentLemmas.{length-replaced}
 use Rattle.service_thunks.specs.Services.{boot_services}
-use Rattle.service_thunks.specs.Tables.{Field, boot_signature, boot_table, boot_table_size, header_fields, put, put_all, service_fields, system_fields, system_signature, system_table, system_table_size}
-use Rattle.world_model.specs.Images.{Told, block_bytes, block_fields, block_size}
+use Rattle.fw_types.specs.Layout.{Field, put, put_all}
+use Rattle.service_thunks.specs.Tables.{boot_signature, boot_table, boot_table_size, header_fields, service_fields, system_fields, system_signature, system_table, system_table_size}
+use Rattle.world_model.specs.Images.{BlockContents, block_bytes, block_fields, block_size}
 use Rattle.world_model.specs.Tables.{binding_size, bus_binding, bus_binding_fields}
 
 -- whether a field lies within so many bytes
@@ -30,9 +31,9 @@ length-structure size fields within =
     let nought : ℕ = 0 in
     length-put_all size fields (replicate size nought) (length-replicate size nought) within
 
-pub length-block : (told : Told) → length (block_bytes told) ≡ block_size
+pub length-block : (contents : BlockContents) → length (block_bytes contents) ≡ block_size
 unfolding block_bytes
-length-block told = length-structure block_size (block_fields told) refl
+length-block contents = length-structure block_size (block_fields contents) refl
 
 pub length-bus_binding : length bus_binding ≡ binding_size
 unfolding bus_binding

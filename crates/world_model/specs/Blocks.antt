@@ -1,23 +1,22 @@
--- Blocks of the pool and of the firmware (UEFI 2.8, 'EFI_BOOT_SERVICES.AllocatePool()' and
--- 'EFI_BOOT_SERVICES.FreePool()').
+-- Blocks of the pool and of the firmware (UEFI 2.8, 7.2: AllocatePool, FreePool).
 use Rattle.std.specs.Prelude.{ℕ, ◌+◌, ◌*◌, ◌/◌, max, Bool, ◌&&◌, ◌||◌, not, nat_eq, nat_lt, List, length, Result, Ok, Err, if◌then◌else◌}
 use Rattle.std.specs.List.{list_any}
 use Rattle.guest_memory.specs.declared.segment.Segment.{Segment}
 use Rattle.guest_memory.specs.declared.segment.SegKind.{SegKind}
 use Rattle.guest_memory.specs.GuestMemory.{begins, is_pool_full, mapped, unmapped}
-use Rattle.world_model.specs.declared.addresses.TheConstants.{BLOCK_END}
+use Rattle.guest_memory.specs.declared.address_map.TheConstants.{BLOCK_END}
 use Rattle.world_model.specs.declared.fault.WorldFault.{WorldFault}
 use Rattle.world_model.specs.declared.fault.WorldFault.TheVariants.{Full, NotThere}
 use Rattle.world_model.specs.declared.image.LoadedImage.{LoadedImage}
 use Rattle.world_model.specs.World.{Soft}
 
 -- how many addresses a block takes: its bytes rounded up to a multiple of 16, and at least 16
-abbrev pub taken : ℕ → ℕ
-taken size = max 16 ((size + 15) / 16 * 16)
+abbrev pub block_room : ℕ → ℕ
+block_room size = max 16 ((size + 15) / 16 * 16)
 
 -- whether one more block of so many bytes passes a limit
 abbrev pub is_block_full : ℕ → Soft → Bool
-is_block_full size soft = is_pool_full soft.memory size || nat_lt BLOCK_END (soft.next_block + taken size)
+is_block_full size soft = is_pool_full soft.memory size || nat_lt BLOCK_END (soft.next_block + block_room size)
 
 -- a block is made at the next address, unless a limit is met
 abbrev pub allot_answer : ℕ → Soft → Result ℕ WorldFault
@@ -30,14 +29,14 @@ block_segment bytes kind soft = record { base = soft.next_block; bytes = bytes; 
 abbrev pub block_added : List ℕ → SegKind → Soft → Soft
 block_added bytes kind soft = record soft {
   memory = mapped (block_segment bytes kind soft) soft.memory;
-  next_block = soft.next_block + taken (length bytes);
+  next_block = soft.next_block + block_room (length bytes);
 }
 
 -- whether an address is that of an image's loaded image block
 abbrev pub is_image_block : ℕ → List LoadedImage → Bool
 is_image_block at images = list_any (λ (image : LoadedImage). nat_eq image.block at) images
 
--- a block of the kind goes that begins at the address, but no loaded image block
+-- a block of the kind that begins at the address is freed, except for a loaded image block
 abbrev pub free_answer : ℕ → SegKind → Soft → Result Unit WorldFault
 free_answer at kind soft =
     if begins kind at soft.memory && not (is_image_block at soft.images) then Ok tt else Err NotThere

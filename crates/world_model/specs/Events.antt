@@ -14,9 +14,9 @@ command_begun units hard = record { units = units; events = [] }
 abbrev pub next_serial : Hard → ℕ
 next_serial hard = length hard.events + 1
 
--- what stands as the result of an event that has not ended: the status SUCCESS
-abbrev pub pending : Outcome
-pending = Value (record { 0 = 0 })
+-- the result of an event that has not ended: the status SUCCESS
+abbrev pub pending_outcome : Outcome
+pending_outcome = Value (record { 0 = 0 })
 
 -- one more event, which has not ended
 abbrev pub event_begun : ℕ → EventKind → ℕ → ℕ → ℕ → Hard → Hard
@@ -28,7 +28,7 @@ event_begun parent kind driver controller extra hard = record hard {
     driver = driver;
     controller = controller;
     extra = extra;
-    result = pending;
+    result = pending_outcome;
   } ∷ [];
 }
 
@@ -39,7 +39,7 @@ with_result serial outcome event = if nat_eq event.serial serial then record eve
 abbrev pub event_ended : ℕ → Outcome → Hard → Hard
 event_ended serial outcome hard = record hard { events = map (with_result serial outcome) hard.events }
 
--- the events are taken away
+-- the events are block_room away
 abbrev pub events_taken : Hard → Hard
 events_taken hard = record hard { events = [] }
 

@@ -1,24 +1,25 @@
--- Images: where they lie, and what the world knows of them.
+-- Images: their addresses, and what the world knows of them.
 use Rattle.std.specs.Prelude.{ℕ, ◌+◌, ◌-◌, ◌*◌, ◌/◌, Bool, ◌||◌, not, nat_eq, nat_lt, List, [], ◌∷◌, ◌++◌, length, filter, find, Option, Some, None, is_some, option_map, replicate, codes, Result, Ok, Err, if◌then◌else◌}
 use Rattle.fw_types.specs.Guid.{known_guid}
+use Rattle.fw_types.specs.declared.image.TheConstants.{RUNTIME_DRIVER}
 use Rattle.fw_types.specs.declared.guid.Known.TheVariants.{LoadedImage as LoadedImageProtocol}
 use Rattle.guest_memory.specs.declared.segment.Segment.{Segment}
 use Rattle.guest_memory.specs.declared.segment.SegKind.TheVariants as kind
 use Rattle.guest_memory.specs.GuestMemory.{beginning_at, image_with, is_full, mapped, unmapped}
 use Rattle.handle_db.specs.Installing.{is_full as is_database_full, installed}
 use Rattle.handle_db.specs.Removing.{removed}
-use Rattle.service_thunks.specs.Tables.{Field, put_all, uint32, uint64}
-use Rattle.world_model.specs.declared.addresses.TheConstants.{IMAGE_END, IMAGE_STEP, SYSTEM_TABLE}
+use Rattle.fw_types.specs.Layout.{Field, put_all, uint32, uint64}
+use Rattle.guest_memory.specs.declared.address_map.TheConstants.{IMAGE_END, IMAGE_STEP, SYSTEM_TABLE}
 use Rattle.world_model.specs.declared.fault.WorldFault.{WorldFault}
 use Rattle.world_model.specs.declared.fault.WorldFault.TheVariants.{Full, NotThere}
 use Rattle.world_model.specs.declared.image.LoadedImage.{LoadedImage}
 use Rattle.world_model.specs.World.{Soft}
 use Rattle.world_model.specs.Records.{records_removed}
-use Rattle.world_model.specs.Blocks.{block_segment, is_block_full, taken}
+use Rattle.world_model.specs.Blocks.{block_segment, is_block_full, block_room}
 use Rattle.world_model.specs.Interfaces.{firmware, interface}
 use Rattle.world_model.specs.Thunks.{without_thunks}
 
--- ---- the loaded image block: UEFI 2.8, 'EFI_LOADED_IMAGE_PROTOCOL'
+-- ---- the loaded image block: UEFI 2.8, 9.1: EFI Loaded Image Protocol
 
 -- how many bytes it has
 abbrev pub block_size : ℕ
@@ -29,17 +30,16 @@ abbrev pub block_revision : ℕ
 block_revision = 0x1000
 
 -- the types of memory that a driver's code and data have, by the image's subsystem: those of boot
--- services (EFI_MEMORY_TYPE 3 and 4), and for a runtime driver, subsystem 12, those of runtime
--- services (5 and 6)
+-- services (EFI_MEMORY_TYPE 3 and 4), and for a runtime driver those of runtime services (5 and 6)
 abbrev pub code_type : ℕ → ℕ
-code_type subsystem = if nat_eq subsystem 12 then 5 else 3
+code_type subsystem = if nat_eq subsystem RUNTIME_DRIVER then 5 else 3
 
 abbrev pub data_type : ℕ → ℕ
-data_type subsystem = if nat_eq subsystem 12 then 6 else 4
+data_type subsystem = if nat_eq subsystem RUNTIME_DRIVER then 6 else 4
 
--- what a loaded image block tells: the image's parent, the device that it was loaded from, its address
+-- what a loaded image block says: the image's parent, the device that it was loaded from, its address
 -- and size, and its subsystem
-pub record Told : Type 0 where
+pub record BlockContents : Type 0 where
   pub parent : ℕ
   pub device : ℕ
   pub base : ℕ
@@ -47,25 +47,25 @@ pub record Told : Type 0 where
   pub subsystem : ℕ
 
 -- its fields; the image itself may set Unload
-abbrev pub block_fields : Told → List Field
-block_fields told =
+abbrev pub block_fields : BlockContents → List Field
+block_fields contents =
     uint32 0 (codes "Revision") block_revision
-    ∷ uint64 8 (codes "ParentHandle") told.parent
+    ∷ uint64 8 (codes "ParentHandle") contents.parent
     ∷ uint64 16 (codes "SystemTable") SYSTEM_TABLE
-    ∷ uint64 24 (codes "DeviceHandle") told.device
+    ∷ uint64 24 (codes "DeviceHandle") contents.device
     ∷ uint64 32 (codes "FilePath") 0
     ∷ uint64 40 (codes "Reserved") 0
     ∷ uint32 48 (codes "LoadOptionsSize") 0
     ∷ uint64 56 (codes "LoadOptions") 0
-    ∷ uint64 64 (codes "ImageBase") told.base
-    ∷ uint64 72 (codes "ImageSize") told.size
-    ∷ uint32 80 (codes "ImageCodeType") (code_type told.subsystem)
-    ∷ uint32 84 (codes "ImageDataType") (data_type told.subsystem)
+    ∷ uint64 64 (codes "ImageBase") contents.base
+    ∷ uint64 72 (codes "ImageSize") contents.size
+    ∷ uint32 80 (codes "ImageCodeType") (code_type contents.subsystem)
+    ∷ uint32 84 (codes "ImageDataType") (data_type contents.subsystem)
     ∷ uint64 88 (codes "Unload") 0
     ∷ []
 
-unfoldable pub block_bytes : Told → List ℕ
-block_bytes told = put_all (block_fields told) (replicate block_size 0)
+unfoldable pub block_bytes : BlockContents → List ℕ
+block_bytes contents = put_all (block_fields contents) (replicate block_size 0)
 
 -- ---- adding an image
 
@@ -86,7 +86,7 @@ is_image_full size soft =
 abbrev pub add_answer : ℕ → Soft → Result ℕ WorldFault
 add_answer size soft = if is_image_full size soft then Err Full else Ok soft.database.next
 
--- the next image, with its entry so far behind its beginning
+-- the next image, with its entry point at an offset from its beginning
 abbrev pub next_loaded : ℕ → Soft → LoadedImage
 next_loaded entry soft = record {
   handle = soft.database.next;
@@ -99,9 +99,9 @@ next_loaded entry soft = record {
 abbrev pub image_segment : List ℕ → Soft → Segment
 image_segment bytes soft = record { base = soft.next_image; bytes = bytes; kind = kind.Image }
 
--- what its loaded image block tells
-abbrev pub told_of : List ℕ → ℕ → ℕ → Soft → Told
-told_of bytes subsystem device soft = record {
+-- what its loaded image block says
+abbrev pub block_contents : List ℕ → ℕ → ℕ → Soft → BlockContents
+block_contents bytes subsystem device soft = record {
   parent = firmware;
   device = device;
   base = soft.next_image;
@@ -110,17 +110,17 @@ told_of bytes subsystem device soft = record {
 }
 
 -- the segment of its loaded image block, in the pool
-abbrev pub told_segment : Told → Soft → Segment
-told_segment told soft = block_segment (block_bytes told) kind.Pool soft
+abbrev pub image_block_segment : BlockContents → Soft → Segment
+image_block_segment contents soft = block_segment (block_bytes contents) kind.Pool soft
 
 -- an image at the next address, with its loaded image block as the interface of a new handle
 abbrev pub image_added : List ℕ → ℕ → ℕ → ℕ → Soft → Soft
 image_added bytes entry subsystem device soft = record soft {
-  memory = mapped (image_segment bytes soft) (mapped (told_segment (told_of bytes subsystem device soft) soft) soft.memory);
+  memory = mapped (image_segment bytes soft) (mapped (image_block_segment (block_contents bytes subsystem device soft) soft) soft.memory);
   database = installed None (interface (known_guid LoadedImageProtocol) soft.next_block firmware) soft.database;
   images = soft.images ++ next_loaded entry soft ∷ [];
   next_image = next_step (soft.next_image + length bytes);
-  next_block = soft.next_block + taken block_size;
+  next_block = soft.next_block + block_room block_size;
 }
 
 -- ---- dropping an image
@@ -135,8 +135,8 @@ drop_answer handle soft = if is_some (image_of handle soft.images) then Ok tt el
 abbrev pub without_image : ℕ → List LoadedImage → List LoadedImage
 without_image handle images = filter (λ (image : LoadedImage). not (nat_eq image.handle handle)) images
 
--- an image's interface goes with its records, its bytes and its loaded image block, and the thunks that
--- enter its bytes
+-- an image is removed: its interface with the records, its bytes, its loaded image block, and the thunks
+-- that enter its bytes
 abbrev pub without_loaded : Option LoadedImage → Soft → Soft
 without_loaded None soft = soft
 without_loaded (Some image) soft = record soft {

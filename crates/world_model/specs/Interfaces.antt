@@ -3,7 +3,7 @@ use Rattle.std.specs.Prelude.{ℕ, Bool, ◌&&◌, ◌||◌, nat_eq, bytes_eq, L
 use Rattle.std.specs.List.{list_any}
 use Rattle.fw_types.specs.Guid.{known_guid}
 use Rattle.fw_types.specs.declared.guid.Known.TheVariants.{LoadedImage as LoadedImageProtocol, DriverBinding}
-use Rattle.handle_db.specs.declared.entry.Interface.{Interface}
+use Rattle.handle_db.specs.declared.handle_entry.Interface.{Interface}
 use Rattle.handle_db.specs.declared.refusal.DbRefusal.{DbRefusal}
 use Rattle.handle_db.specs.Installing.{install_answer as db_install_answer, installed}
 use Rattle.handle_db.specs.Removing.{remove_answer, removed}
@@ -38,7 +38,7 @@ without_value (Err refusal) = Err refusal
 abbrev pub uninstall_answer : ℕ → List ℕ → Soft → Result Unit DbRefusal
 uninstall_answer handle guid soft = without_value (remove_answer handle guid soft.database)
 
--- An interface goes with its records, and where that was its handle's last one, so do the records that
+-- An interface is removed with its records, and if it was its handle's last one, so are the records that
 -- name the handle.
 abbrev pub interface_removed : ℕ → List ℕ → Soft → Soft
 interface_removed handle guid soft = record soft {
@@ -51,7 +51,7 @@ abbrev pub is_image : ℕ → List LoadedImage → Bool
 is_image handle images = list_any (λ (image : LoadedImage). nat_eq image.handle handle) images
 
 -- Whether an interface is not uninstalled: the loaded image protocol of the firmware and of each image,
--- and the bus driver's binding. An image's goes only with the image.
+-- and the bus driver's binding. That of an image is removed only with the image.
 abbrev pub is_lasting : ℕ → List ℕ → Soft → Bool
 is_lasting handle guid soft =
     bytes_eq guid (known_guid LoadedImageProtocol) && (nat_eq handle firmware || is_image handle soft.images)

@@ -1,10 +1,9 @@
--- Each single change leaves what holds of every soft part, and where it maps a segment nothing refuses
--- that.
+-- Each single change leaves what holds of every soft part, and if it maps a segment nothing refuses that.
 use Rattle.std.specs.Prelude.{◌≡◌, ℕ, ◌≤◌, ◌<◌, true, false, List, length, Option, Ok, is_ok, is_some}
 use Rattle.guest_memory.specs.declared.segment.SegKind.{SegKind}
 use Rattle.guest_memory.specs.Segment.{is_block}
 use Rattle.guest_memory.specs.GuestMemory.{is_writable_range, map_answer, mapped, put_bytes, write_answer, written}
-use Rattle.handle_db.specs.declared.entry.Interface.{Interface}
+use Rattle.handle_db.specs.declared.handle_entry.Interface.{Interface}
 use Rattle.handle_db.specs.Database.{has, is_live}
 use Rattle.fw_types.specs.Attr.{is_legal}
 use Rattle.open_records.specs.OpenRecords.{records_of}
@@ -15,10 +14,10 @@ use Rattle.world_model.specs.Blocks.{block_added, block_freed, block_segment, fr
 use Rattle.world_model.specs.Records.{all_left, child_left, is_none_or_live, record_entered, records_left, weak_dropped}
 use Rattle.world_model.specs.Interfaces.{install_answer, interface_added, interface_removed, is_lasting}
 use Rattle.world_model.specs.Thunks.{thunk_answer, thunk_made}
-use Rattle.world_model.specs.Images.{Told, image_added, image_at, image_dropped, image_segment, is_image_full, told_segment}
+use Rattle.world_model.specs.Images.{BlockContents, image_added, image_at, image_dropped, image_segment, is_image_full, image_block_segment}
 use Rattle.world_model.specs.Stacks.{has_stack, list_segment, stack_popped, stack_pushed, stack_segment}
 use Rattle.world_model.specs.Kept.{IsKept}
-use Rattle.world_model.specs.declared.addresses.TheConstants.{MOST_LEVELS, MOST_LISTED}
+use Rattle.fw_types.specs.declared.limits.TheConstants.{MOST_LEVELS, MOST_LISTED}
 use Rattle.world_model.specs.Opening.{opening_soft}
 
 abbrev pub OpeningIsKept : Type 0
@@ -69,7 +68,7 @@ abbrev pub EnteringKeeps : Type 0
 EnteringKeeps =
     (soft : Soft) (handle : ℕ) (guid : List ℕ) (agent controller attr : ℕ) → IsKept soft
     → has handle guid soft.database ≡ true → is_live agent soft.database ≡ true → is_none_or_live controller soft.database ≡ true
-    → may_enter (judge (records_of soft.records.held handle guid) agent controller attr) ≡ true → is_legal attr ≡ true → is_full handle guid agent controller attr soft.records ≡ false
+    → may_enter (judge (records_of soft.records.entries handle guid) agent controller attr) ≡ true → is_legal attr ≡ true → is_full handle guid agent controller attr soft.records ≡ false
     → IsKept (record_entered handle guid agent controller attr soft)
 
 abbrev pub LeavingKeeps : Type 0
@@ -87,14 +86,14 @@ WeakDroppingKeeps = (soft : Soft) (handle : ℕ) (guid : List ℕ) → IsKept so
 -- ---- images
 
 -- first the loaded image block is mapped, then the image
-abbrev pub ToldFits : Type 0
-ToldFits =
-    (soft : Soft) (size : ℕ) (told : Told) → IsKept soft → is_image_full size soft ≡ false → map_answer soft.memory (told_segment told soft) ≡ Ok tt
+abbrev pub ImageBlockFits : Type 0
+ImageBlockFits =
+    (soft : Soft) (size : ℕ) (contents : BlockContents) → IsKept soft → is_image_full size soft ≡ false → map_answer soft.memory (image_block_segment contents soft) ≡ Ok tt
 
 abbrev pub ImageFits : Type 0
 ImageFits =
-    (soft : Soft) (bytes : List ℕ) (told : Told) → IsKept soft → 0 < length bytes → is_image_full (length bytes) soft ≡ false
-    → map_answer (mapped (told_segment told soft) soft.memory) (image_segment bytes soft) ≡ Ok tt
+    (soft : Soft) (bytes : List ℕ) (contents : BlockContents) → IsKept soft → 0 < length bytes → is_image_full (length bytes) soft ≡ false
+    → map_answer (mapped (image_block_segment contents soft) soft.memory) (image_segment bytes soft) ≡ Ok tt
 
 abbrev pub AddingKeeps : Type 0
 AddingKeeps =

@@ -15,6 +15,9 @@ pub mod Kept
 pub mod Legal
 pub mod Fixed
 pub mod Keeping
-pub mod Standing
-pub mod Finding
-pub mod Entering
+pub mod StackLaws
+pub mod ImageLaws
+pub mod ThunkLaws
+pub mod Children
+pub mod Levels
+pub mod NestedLaws

@@ -5,8 +5,10 @@ use Rattle.fw_types.specs.Guid.{known_guid}
 use Rattle.fw_types.specs.declared.guid.Known.TheVariants.{LoadedImage, DriverBinding}
 use Rattle.handle_db.specs.Database.{Database}
 use Rattle.handle_db.specs.Installing.{new_entry}
-use Rattle.world_model.specs.declared.addresses.TheConstants.{BUS_BINDING, FIRMWARE_IMAGE, FIRST_BLOCK, FIRST_IMAGE, MOST_HANDLES, MOST_RECORDS, TPL_APPLICATION}
-use Rattle.world_model.specs.World.{Held, Soft}
+use Rattle.fw_types.specs.declared.limits.TheConstants.{MOST_HANDLES, MOST_RECORDS}
+use Rattle.guest_memory.specs.declared.address_map.TheConstants.{BUS_BINDING, FIRMWARE_IMAGE, FIRST_BLOCK, FIRST_IMAGE}
+use Rattle.world_model.specs.declared.tpl.TheConstants.{TPL_APPLICATION}
+use Rattle.world_model.specs.World.{WorldView, Soft}
 use Rattle.world_model.specs.Interfaces.{bus_driver, firmware, interface}
 use Rattle.world_model.specs.Tables.{tables}
 
@@ -25,7 +27,7 @@ abbrev pub opening_soft : Soft
 opening_soft = record {
   memory = tables;
   database = opening_database;
-  records = record { held = []; limit = MOST_RECORDS };
+  records = record { entries = []; limit = MOST_RECORDS };
   images = [];
   thunks = [];
   tpl = TPL_APPLICATION;
@@ -35,5 +37,5 @@ opening_soft = record {
 }
 
 -- no command has begun, and no mark is open
-abbrev pub opening : Held
-opening = record { now = record { soft = opening_soft; hard = record { units = 0; events = [] } }; kept = [] }
+abbrev pub opening : WorldView
+opening = record { now = record { soft = opening_soft; hard = record { units = 0; events = [] } }; marks = [] }

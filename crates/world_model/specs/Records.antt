@@ -1,26 +1,15 @@
 -- The open records of the world (UEFI 2.8, 7.3: OpenProtocol, CloseProtocol): which agent has which
 -- interface open, for which controller and how.
 use Rattle.std.specs.Prelude.{ℕ, ◌-◌, Bool, ◌||◌, nat_eq, List, length, Some, None, if◌then◌else◌}
+use Rattle.fw_types.specs.declared.attr.TheConstants.Attr.{ALL_BITS, BY_CHILD_CONTROLLER, WEAK_BITS}
 use Rattle.handle_db.specs.Database.{Database, is_live}
-use Rattle.open_records.specs.OpenRecords.{Table}
+use Rattle.open_records.specs.OpenRecords.{RecordTable}
 use Rattle.open_records.specs.Adding.{added}
 use Rattle.open_records.specs.Leaving.{cut, cut_on, is_meant, swept}
 use Rattle.world_model.specs.World.{Soft}
 
--- the bits of all attributes, of which each record has one
-abbrev pub any_bit : ℕ
-any_bit = 0x3F
-
--- the bit of BY_CHILD_CONTROLLER
-abbrev pub child_bit : ℕ
-child_bit = 0x08
-
--- the bits of the attributes that keep nobody out: BY_HANDLE_PROTOCOL, GET_PROTOCOL and TEST_PROTOCOL
-abbrev pub weak_bits : ℕ
-weak_bits = 0x07
-
 -- a change of the records alone
-abbrev pub with_records : Table → Soft → Soft
+abbrev pub with_records : RecordTable → Soft → Soft
 with_records records soft = record soft { records = records }
 
 -- ---- entering
@@ -37,31 +26,31 @@ record_entered handle guid agent controller attr soft = with_records (added hand
 
 -- an agent's records for a controller go from an interface
 abbrev pub records_left : ℕ → List ℕ → (agent controller : ℕ) → Soft → Soft
-records_left handle guid agent controller soft = with_records (cut handle guid (is_meant (Some agent) (Some controller) any_bit) soft.records) soft
+records_left handle guid agent controller soft = with_records (cut handle guid (is_meant (Some agent) (Some controller) ALL_BITS) soft.records) soft
 
 -- an agent's records go from all interfaces of a handle
 abbrev pub all_left : ℕ → (agent : ℕ) → Soft → Soft
-all_left handle agent soft = with_records (cut_on handle (is_meant (Some agent) None any_bit) soft.records) soft
+all_left handle agent soft = with_records (cut_on handle (is_meant (Some agent) None ALL_BITS) soft.records) soft
 
 -- an agent's records for a child go from all interfaces of a handle
 abbrev pub child_left : ℕ → (agent child : ℕ) → Soft → Soft
-child_left handle agent child soft = with_records (cut_on handle (is_meant (Some agent) (Some child) child_bit) soft.records) soft
+child_left handle agent child soft = with_records (cut_on handle (is_meant (Some agent) (Some child) BY_CHILD_CONTROLLER) soft.records) soft
 
 -- the records that keep nobody out go from an interface
 abbrev pub weak_dropped : ℕ → List ℕ → Soft → Soft
-weak_dropped handle guid soft = with_records (cut handle guid (is_meant None None weak_bits) soft.records) soft
+weak_dropped handle guid soft = with_records (cut handle guid (is_meant None None WEAK_BITS) soft.records) soft
 
--- how many records went with a change
-abbrev pub gone : Soft → Soft → ℕ
-gone before after = length before.records.held - length after.records.held
+-- how many records a change removed
+abbrev pub removed_count : Soft → Soft → ℕ
+removed_count before after = length before.records.entries - length after.records.entries
 
 -- ---- interfaces that go
 
 -- without the records that name a handle, unless it is live
-abbrev pub unless_live : ℕ → Database → Table → Table
+abbrev pub unless_live : ℕ → Database → RecordTable → RecordTable
 unless_live handle db records = if is_live handle db then records else swept handle records
 
--- All records of an interface go with it; and where the database then has its handle no more, so do those
--- that name the handle.
-abbrev pub records_removed : ℕ → List ℕ → Database → Table → Table
-records_removed handle guid after records = unless_live handle after (cut handle guid (is_meant None None any_bit) records)
+-- All records of an interface are removed with it. If its handle is then no longer live, so are those that
+-- name the handle.
+abbrev pub records_removed : ℕ → List ℕ → Database → RecordTable → RecordTable
+records_removed handle guid after records = unless_live handle after (cut handle guid (is_meant None None ALL_BITS) records)

@@ -3,14 +3,14 @@ use Rattle.std.specs.Prelude.{ℕ, ◌+◌, ◌-◌, ◌*◌, Bool, List, [], �
 use Rattle.std.specs.List.{list_any}
 use Rattle.byteorder.specs.Endian.{little_bytes}
 use Rattle.ebc_machine.specs.declared.cpu.Cpu.{Cpu}
-use Rattle.ebc_machine.specs.declared.run.TheConstants.{EXIT}
+use Rattle.guest_memory.specs.declared.address_map.TheConstants.{EXIT}
 use Rattle.guest_memory.specs.declared.segment.Segment.{Segment}
 use Rattle.guest_memory.specs.declared.segment.SegKind.TheVariants as kind
 use Rattle.guest_memory.specs.GuestMemory.{begins, mapped, unmapped}
-use Rattle.world_model.specs.declared.addresses.TheConstants.{CHILD_LISTS, LIST_ROOM, STACKS, STACK_SIZE}
+use Rattle.guest_memory.specs.declared.address_map.TheConstants.{CHILD_LISTS, LIST_ROOM, STACKS, STACK_SIZE}
 use Rattle.world_model.specs.World.{Soft}
 
--- ---- where they lie
+-- ---- their addresses
 
 abbrev pub stack_base : ℕ → ℕ
 stack_base level = STACKS + STACK_SIZE * level
@@ -25,12 +25,12 @@ abbrev pub has_list : ℕ → List Segment → Bool
 has_list level segments = begins kind.Table (list_base level) segments
 
 -- whether an open mark keeps a level's stack, so that it is newer than the stack
-abbrev pub is_kept_stack : ℕ → List Soft → Bool
-is_kept_stack level kept = list_any (λ (soft : Soft). has_stack level soft.memory) kept
+abbrev pub is_marked_stack : ℕ → List Soft → Bool
+is_marked_stack level kept = list_any (λ (soft : Soft). has_stack level soft.memory) kept
 
 -- ---- what they hold
 
--- The frame of a call stands at the end of its stack: the return address, which is the exit address,
+-- The frame of a call is at the end of its stack: the return address, which is the exit address,
 -- 8 bytes of zeros, and sixteen slots for arguments.
 abbrev pub frame_size : ℕ
 frame_size = 144
@@ -60,7 +60,7 @@ frame level = record {
 
 -- ---- pushing and popping
 
--- the list of children is mapped, where there are any
+-- the list of children is mapped, if there are any
 abbrev pub list_mapped : ℕ → List ℕ → List Segment → List Segment
 list_mapped level [] segments = segments
 list_mapped level (handle ∷ handles) segments = mapped (list_segment level (handle ∷ handles)) segments
@@ -69,7 +69,7 @@ abbrev pub stack_pushed : ℕ → List ℕ → List ℕ → Soft → Soft
 stack_pushed level slots handles soft =
     record soft { memory = list_mapped level handles (mapped (stack_segment level slots) soft.memory) }
 
--- the stack of a level goes, and its list of children where there is one
+-- the stack of a level is unmapped, and its list of children if there is one
 abbrev pub stack_popped : ℕ → Soft → Soft
 stack_popped level soft =
     record soft { memory = unmapped (unmapped soft.memory (stack_base level)) (list_base level) }

@@ -1,10 +1,11 @@
--- Thunks: addresses by which native code calls EBC code (UEFI 2.8, 'EFI_EBC_PROTOCOL.CreateThunk()').
+-- Thunks: addresses by which native code calls EBC code (UEFI 2.8, 22.11: EFI_EBC_PROTOCOL.CreateThunk).
 -- Nothing is mapped there: a native call of a thunk's address enters the EBC code.
 use Rattle.std.specs.Prelude.{ℕ, ◌+◌, ◌*◌, Bool, not, nat_eq, nat_le, List, [], ◌∷◌, ◌++◌, filter, find, Option, option_map, Result, Ok, Err, if◌then◌else◌}
 use Rattle.guest_memory.specs.declared.guest.MemRefusal.{MemRefusal}
 use Rattle.guest_memory.specs.declared.segment.Segment.{Segment}
 use Rattle.guest_memory.specs.Segment.{has_bytes}
-use Rattle.world_model.specs.declared.addresses.TheConstants.{MOST_THUNKS, THUNKS, THUNK_STEP}
+use Rattle.fw_types.specs.declared.limits.TheConstants.{MOST_THUNKS}
+use Rattle.guest_memory.specs.declared.address_map.TheConstants.{THUNKS, THUNK_STEP}
 use Rattle.world_model.specs.declared.fault.WorldFault.{WorldFault}
 use Rattle.world_model.specs.declared.fault.WorldFault.TheVariants.{Full}
 use Rattle.world_model.specs.declared.thunk.Thunk.{Thunk}
@@ -33,7 +34,7 @@ thunk_made entry soft = record soft {
 abbrev pub is_thunk_at : ℕ → Thunk → Bool
 is_thunk_at at thunk = nat_eq (thunk_address thunk.number) at
 
--- where the live thunk of an address enters
+-- the entry point of the live thunk of an address
 abbrev pub thunk_at : ℕ → Soft → Option ℕ
 thunk_at at soft = option_map (λ (thunk : Thunk). thunk.entry) (find (is_thunk_at at) soft.thunks)
 
@@ -43,7 +44,7 @@ thunk_at at soft = option_map (λ (thunk : Thunk). thunk.entry) (find (is_thunk_
 abbrev pub enters : Segment → Thunk → Bool
 enters segment thunk = has_bytes segment thunk.entry 1
 
--- without the thunks that enter a segment, where there is one
+-- without the thunks that enter a segment, if there is one
 abbrev pub without_thunks : Result Segment MemRefusal → List Thunk → List Thunk
 without_thunks (Err refusal) thunks = thunks
 without_thunks (Ok segment) thunks = filter (λ (thunk : Thunk). not (enters segment thunk)) thunks

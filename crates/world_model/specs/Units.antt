@@ -5,13 +5,13 @@ use Rattle.world_model.specs.World.{Hard}
 abbrev pub units_spent : ℕ → Hard → Hard
 units_spent price hard = record hard { units = hard.units - price }
 
--- While a cap stands at most so many units are left; the others are set aside.
+-- A cap leaves at most so many units; the others are set aside until it is given back.
 abbrev pub units_capped : ℕ → Hard → Hard
 units_capped most hard = record hard { units = min most hard.units }
 
 -- how many a cap sets aside
-abbrev pub set_aside : ℕ → Hard → ℕ
-set_aside most hard = hard.units - min most hard.units
+abbrev pub units_aside : ℕ → Hard → ℕ
+units_aside most hard = hard.units - min most hard.units
 
 -- units that were set aside come back
 abbrev pub units_returned : ℕ → Hard → Hard

@@ -5,17 +5,17 @@ use Rattle.guest_memory.specs.declared.segment.Segment.{Segment}
 use Rattle.guest_memory.specs.declared.segment.SegKind.{SegKind}
 use Rattle.guest_memory.specs.GuestMemory.{is_of}
 use Rattle.handle_db.specs.Database.{Database}
-use Rattle.open_records.specs.OpenRecords.{Table}
+use Rattle.open_records.specs.OpenRecords.{RecordTable}
 use Rattle.world_model.specs.declared.image.LoadedImage.{LoadedImage}
 use Rattle.world_model.specs.declared.thunk.Thunk.{Thunk}
 
 -- the memory of drivers; the handle database; the open records; the images that are loaded, in order of
--- loading, but for the firmware's own; the live thunks, in order of making; the task priority level; the
+-- loading, except for the firmware's own; the live thunks, in order of making; the task priority level; the
 -- addresses at which the next image and the next block will lie; and the number of the next thunk
 pub record Soft : Type 0 where
   pub memory : List Segment
   pub database : Database
-  pub records : Table
+  pub records : RecordTable
   pub images : List LoadedImage
   pub thunks : List Thunk
   pub tpl : ℕ
@@ -33,11 +33,11 @@ pub record State : Type 0 where
   pub hard : Hard
 
 -- the world beside the soft parts that its open marks keep, the newest mark's first
-pub record Held : Type 0 where
+pub record WorldView : Type 0 where
   pub now : State
-  pub kept : List Soft
+  pub marks : List Soft
 
--- where the segments of a kind begin, in order of address
+-- the addresses at which the segments of a kind begin, in order
 abbrev pub bases : SegKind → List Segment → List ℕ
 bases kind segments = map (λ (segment : Segment). segment.base) (filter (is_of kind) segments)
 
@@ -53,6 +53,6 @@ on_hard change w = record w { hard = change w.hard }
 abbrev pub with_memory : List Segment → Soft → Soft
 with_memory segments soft = record soft { memory = segments }
 
--- another task priority level (UEFI 2.8, 'EFI_BOOT_SERVICES.RaiseTPL()')
+-- another task priority level (UEFI 2.8, 7.1: RaiseTPL)
 abbrev pub with_tpl : ℕ → Soft → Soft
 with_tpl tpl soft = record soft { tpl = tpl }

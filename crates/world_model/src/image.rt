@@ -9,6 +9,6 @@ pub struct LoadedImage {
     pub base: u64,
     /// The address of its entry point.
     pub entry: u64,
-    /// The address of its loaded image block (UEFI 2.8, 'EFI Loaded Image Protocol').
+    /// The address of its loaded image block (UEFI 2.8, 9.1: EFI Loaded Image Protocol).
     pub block: u64,
 }

@@ -1,13 +1,19 @@
-//! Laws of the world's single changes, over the definitions alone. Each is the contract of a function
-//! with no code.
+//! Laws of the world's single changes, over the definitions alone. Each is the contract of a
+//! function with no code.
 
-ghost use Rattle.world_model.specs.Entering.{DroppingTakesThunks, MadeIsFound, MakingKeepsOthers, ThunkEntersImage};
-ghost use Rattle.world_model.specs.Finding.{AddedIsFound};
+ghost use Rattle.std.specs.Prelude.{◌≡◌, ◌^◌};
+ghost use Rattle.fw_types.specs.declared.limits.TheConstants.{CALL_BUDGET, COMMAND_BUDGET, HANDLE_NUMBER_END, MOST_LEVELS, MOST_LISTED, MOST_MARKS, MOST_RECORDS};
+ghost use Rattle.guest_memory.specs.declared.address_map.TheConstants.{BLOCK_END};
+ghost use Rattle.world_model.specs.ThunkLaws.{DroppingTakesThunks, MadeIsFound, MakingKeepsOthers, ThunkEntersImage};
+ghost use Rattle.world_model.specs.ImageLaws.{AddedIsFound};
+ghost use Rattle.world_model.specs.Children.{ChildrenAreFew};
 ghost use Rattle.world_model.specs.Fixed.{MappingKeepsFixed, PuttingKeepsFixed, UnmappingKeepsFixed, WritingKeepsFixed};
 ghost use Rattle.world_model.specs.Legal.{DeadIsNotNamed, EveryoneIsLegal, NoneIsLost};
+ghost use Rattle.world_model.specs.Levels.{CallHasMarks, DeeperHasMarks, DeeperIsFree, MarkingLeavesFree, NextIsFree, OpeningIsAtRest, PushingLeavesFree, RestHasMarks, RestIsFree, SpareIsMade, SparesAreEnough};
 ghost use Rattle.world_model.specs.Marks.{CommitSpendsMark, RollbackPutsBack};
-ghost use Rattle.world_model.specs.Standing.{AddingKeepsStacks, AllottingKeepsStacks, DroppingKeepsStacks, FreeingKeepsStacks, PoppedIsGone, PoppingTakesStack, PushedIsThere, PushingAddsStack, PuttingKeepsStacks, StackOfLevel, WritingKeepsStacks};
-ghost use Rattle.world_model.specs.Keeping.{AddingKeeps, AllLeavingKeeps, AllottingKeeps, BlockFits, ChildLeavingKeeps, DroppingKeeps, EnteringKeeps, FreeingKeeps, ImageFits, InstallingKeeps, LeavingKeeps, ListFits, MakingKeeps, OpeningIsKept, PoppingKeeps, PushingKeeps, PuttingKeeps, StackFits, ToldFits, TplKeeps, UninstallingKeeps, WeakDroppingKeeps, WritingKeeps};
+ghost use Rattle.world_model.specs.NestedLaws.{AllLeavingInView, ChildLeavingInView, EnteringInView, InstallingInView, LeavingInView, NewHandleInView, UninstallingInView, WeakDroppingInView};
+ghost use Rattle.world_model.specs.StackLaws.{AddingKeepsStacks, AllottingKeepsStacks, DroppingKeepsStacks, FreeingKeepsStacks, PoppingUndoesPush, PoppingTakesStack, PushedStackIsThere, PushingAddsStack, PuttingKeepsStacks, StackOfLevel, WritingKeepsStacks};
+ghost use Rattle.world_model.specs.Keeping.{AddingKeeps, AllLeavingKeeps, AllottingKeeps, BlockFits, ChildLeavingKeeps, DroppingKeeps, EnteringKeeps, FreeingKeeps, ImageFits, InstallingKeeps, LeavingKeeps, ListFits, MakingKeeps, OpeningIsKept, PoppingKeeps, PushingKeeps, PuttingKeeps, StackFits, ImageBlockFits, TplKeeps, UninstallingKeeps, WeakDroppingKeeps, WritingKeeps};
 
 /// The tables, lists of children and blocks of the firmware keep their bytes while they are mapped:
 /// they change by being mapped and unmapped alone.
@@ -40,24 +46,37 @@ pub fn changes_keep()
     ensures popping { PoppingKeeps }
 {}
 
-/// The open records, each seen with its interface, are legal, and none is left out. A handle that is not
-/// live is named by none.
+/// The open records, each seen with its interface, are legal, and none is left out. A handle that
+/// is not live is named by none.
 pub fn records_are_legal()
     ensures legal { EveryoneIsLegal }
     ensures whole { NoneIsLost }
     ensures dead { DeadIsNotNamed }
 {}
 
+/// What each change of interfaces and of open records is in the nested view, in which each handle
+/// has its interfaces and each interface its records.
+pub fn changes_in_view()
+    ensures new_handle { NewHandleInView }
+    ensures installing { InstallingInView }
+    ensures uninstalling { UninstallingInView }
+    ensures entering { EnteringInView }
+    ensures leaving { LeavingInView }
+    ensures all_leaving { AllLeavingInView }
+    ensures child_leaving { ChildLeavingInView }
+    ensures weak_dropping { WeakDroppingInView }
+{}
+
 /// A segment that a change maps meets no other and passes no limit, unless the change is refused.
 pub fn segments_fit()
     ensures block { BlockFits }
-    ensures told { ToldFits }
+    ensures image_block { ImageBlockFits }
     ensures image { ImageFits }
     ensures stack { StackFits }
     ensures list { ListFits }
 {}
 
-/// Which stacks stand: all changes leave them, but those that push and pop one.
+/// Which stacks are there: all changes leave them, except for those that push and pop one.
 pub fn stacks_stand()
     ensures level { StackOfLevel }
     ensures writing { WritingKeepsStacks }
@@ -68,12 +87,42 @@ pub fn stacks_stand()
     ensures dropping { DroppingKeepsStacks }
     ensures pushing { PushingAddsStack }
     ensures popping { PoppingTakesStack }
-    ensures there { PushedIsThere }
-    ensures gone { PoppedIsGone }
+    ensures there { PushedStackIsThere }
+    ensures undone { PoppingUndoesPush }
 {}
 
-/// A rollback puts the soft part back as it was when the mark was made, and a commit leaves it, whatever
-/// was done in between and however many marks are open.
+/// A handle has at most 4,096 children, since each is a live handle.
+pub fn children_are_few()
+    ensures { ChildrenAreFew }
+{}
+
+/// The levels that may still be entered have no stack, neither now nor in what an open mark keeps,
+/// and that stays so as a level is entered and as marks are made.
+pub fn levels_are_free()
+    ensures next { NextIsFree }
+    ensures pushing { PushingLeavesFree }
+    ensures deeper { DeeperIsFree }
+    ensures marking { MarkingLeavesFree }
+{}
+
+/// Each level opens three marks at most, and there is room for them.
+pub fn marks_suffice()
+    ensures enough { SparesAreEnough }
+    ensures deeper { DeeperHasMarks }
+    ensures call { CallHasMarks }
+    ensures spare { SpareIsMade }
+{}
+
+/// Between commands no stack is there and no mark is open, as at first; so all levels are free, and
+/// there is room for their marks.
+pub fn rest_is_free()
+    ensures opening { OpeningIsAtRest }
+    ensures free { RestIsFree }
+    ensures marks { RestHasMarks }
+{}
+
+/// A rollback puts the soft part back as it was when the mark was made, and a commit leaves it,
+/// whatever was done in between and however many marks are open.
 pub fn marks_are_spent()
     ensures rollback { RollbackPutsBack }
     ensures commit { CommitSpendsMark }
@@ -84,10 +133,23 @@ pub fn added_image_is_found()
     ensures { AddedIsFound }
 {}
 
-/// A thunk is found at its address once it is made, enters an image, and goes with that image.
+/// A thunk that is made is found at its address and enters an image, and it is removed with that
+/// image.
 pub fn thunks_enter_images()
     ensures found { MadeIsFound }
     ensures others { MakingKeepsOthers }
     ensures enters { ThunkEntersImage }
     ensures dropping { DroppingTakesThunks }
+{}
+
+/// The limits that no test reaches have these values.
+pub fn limits_have_their_values()
+    ensures block_end { BLOCK_END ≡ 2 ^ 62 }
+    ensures handle_number_end { HANDLE_NUMBER_END ≡ 2 ^ 62 }
+    ensures levels { MOST_LEVELS ≡ 32 }
+    ensures listed { MOST_LISTED ≡ 16384 }
+    ensures marks { MOST_MARKS ≡ 65536 }
+    ensures records { MOST_RECORDS ≡ 65536 }
+    ensures command_budget { COMMAND_BUDGET ≡ 4194304 }
+    ensures call_budget { CALL_BUDGET ≡ 1048576 }
 {}

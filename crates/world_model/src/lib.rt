@@ -1,16 +1,17 @@
 //! The definitions of the one state of the firmware, the world, and of its single changes.
 //!
-//! `specs/World.antt` has the world: a soft part, which an undo puts back, and a hard part, which no
-//! undo touches. The other files have each single change as a word. `specs/Kept.antt` says what holds
-//! of every soft part. Code stands here only where definitions and code share a plain type.
+//! `specs/World.antt` has the world: a soft part, which an undo puts back, and a hard part, which
+//! no undo touches. The other files have each single change as a word. `specs/Kept.antt` says what
+//! holds of every soft part. There is code here only if definitions and code share a plain type.
 #![tactic(auto)]
 
-pub mod addresses;
 mod fault;
 mod image;
 pub mod laws;
 mod thunk;
+mod tpl;
 
 pub use fault::WorldFault;
 pub use image::LoadedImage;
 pub use thunk::Thunk;
+pub use tpl::TPL_APPLICATION;

@@ -6,9 +6,9 @@ use Rattle.bind_engine.proofs.guest_run.run_code.Given as goal
 abbrev pub invariant-turns : goal.invariant-turns
 invariant-turns l = record {
   same : run l.level l.fn.start l.initial.world.now ≡ run l.level l.cpu l.world.now;
-  kept : l.world.kept ≡ l.initial.world.kept;
+  marks : l.world.marks ≡ l.initial.world.marks;
 }
 
--- each turn behind which it goes on costs a unit and more
+-- each turn after which it goes on costs a unit and more
 abbrev pub decreases-turns : goal.decreases-turns
 decreases-turns l = l.world.now.hard.units

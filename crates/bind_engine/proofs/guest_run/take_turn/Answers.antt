@@ -1,6 +1,6 @@
 use Rattle.std.proofs.Common.{◌≡◌, false, nat_eq, arith}
 use Rattle.std.proofs.lemmas.Bool.Decides.{nat_tests}
-use Rattle.ebc_machine.specs.declared.run.TheConstants.{EXIT}
+use Rattle.guest_memory.specs.declared.address_map.TheConstants.{EXIT}
 use Rattle.world_model.specs.World.{on_hard}
 use Rattle.world_model.specs.Units.{units_spent}
 use Rattle.bind_engine.proofs.Turns.{taken}

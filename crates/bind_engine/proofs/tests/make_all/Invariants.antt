@@ -6,5 +6,5 @@ use Rattle.bind_engine.proofs.tests.make_all.Given as goal
 abbrev pub invariant-numbers : goal.invariant-numbers
 invariant-numbers l = record {
   stacks : stacks l.world.now.soft ≡ [];
-  kept : l.world.kept ≡ [];
+  marks : l.world.marks ≡ [];
 }

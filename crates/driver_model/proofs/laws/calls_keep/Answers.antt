@@ -10,6 +10,6 @@ returns c =
     record {
       kept = λ parent level call children w can. keeps keep.pushing runs.kept level call children w can keep.popping keep.tpl parent;
       stacks = λ parent level call children w can.
-          keeps-stacks keep.pushing runs.kept level call children w can runs.stacks stand.pushing stand.popping stand.gone stand.level parent;
-      fixed = λ parent level call children w can. keeps-fixed keep.pushing runs.kept level call children w can runs.fixed fix.mapping fix.unmapping parent;
+          keeps-stacks keep.pushing runs.kept level call children w can runs.stacks stand.pushing stand.popping stand.undone stand.level parent;
+      fixed_segments = λ parent level call children w can. keeps-fixed keep.pushing runs.kept level call children w can runs.fixed_segments fix.mapping fix.unmapping parent;
     }

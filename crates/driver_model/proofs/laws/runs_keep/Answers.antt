@@ -11,5 +11,5 @@ returns c =
     record {
       kept = λ level cpu w. keeps keep.writing keep.putting keep.making services.kept (chain level cpu w);
       stacks = λ level cpu w. stands stand.writing stand.putting services.stacks keep.writing keep.putting keep.making services.kept (chain level cpu w);
-      fixed = λ level cpu w. fixes fix.writing fix.putting services.fixed keep.writing keep.putting keep.making services.kept (chain level cpu w);
+      fixed_segments = λ level cpu w. fixes fix.writing fix.putting services.fixed_segments keep.writing keep.putting keep.making services.kept (chain level cpu w);
     }

@@ -2,7 +2,7 @@ use Rattle.std.proofs.Common.{◌≡◌, ◌^◌, ◌<◌, drop}
 use Rattle.std.specs.Str.Parse.{digits_value, digits_value_after}
 use Rattle.ebc_asm.proofs.numbers.value.Given as goal
 
--- the digits behind those that were read go on from their number
+-- the digits after those that were read go on from their number
 abbrev pub invariant-loop-byte : goal.invariant-loop-byte
 invariant-loop-byte l = record {
   fits : l.n < 2 ^ 64;

@@ -7,5 +7,5 @@ use Rattle.fw_world.proofs.mapping.map_image.Goals as goal
 
 pub returns-in-Err-clause-err : goal.returns-in-Err-clause-err
 returns-in-Err-clause-err c =
-    let told : Segment = record { base = c.args.block; bytes = c.args.told.items; kind = kind.Pool } in
-    c.unmap.ensures.rest ∙ ap (λ (m : List Segment). unmapped m c.args.block) (c.in-Err.ensures.err ∙ c.in_ok-map_free.ensures.ok) ∙ unmapped-mapped told c.args.memory.now
+    let contents : Segment = record { base = c.args.block; bytes = c.args.contents.items; kind = kind.Pool } in
+    c.unmap.ensures.rest ∙ ap (λ (m : List Segment). unmapped m c.args.block) (c.in-Err.ensures.err ∙ c.in_ok-map_free.ensures.ok) ∙ unmapped-mapped contents c.args.memory.now

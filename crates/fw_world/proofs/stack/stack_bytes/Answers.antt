@@ -1,7 +1,7 @@
 use Rattle.std.proofs.Common.{ℕ, List, ◌++◌, replicate, ap, ◌∙◌}
 use Rattle.std.specs.Prelude.{flat_map}
 use Rattle.byteorder.specs.Endian.{little_bytes}
-use Rattle.ebc_machine.specs.declared.run.TheConstants.{EXIT}
+use Rattle.guest_memory.specs.declared.address_map.TheConstants.{EXIT}
 use Rattle.world_model.specs.Stacks.{stack_bytes}
 use Rattle.fw_world.proofs.stack.stack_bytes.Goals as goal
 

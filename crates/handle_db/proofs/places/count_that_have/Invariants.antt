@@ -1,10 +1,10 @@
 use Rattle.std.proofs.Common.{◌≡◌, ◌≤◌, ℕ, List, filter, length, take}
 use Rattle.handle_db.specs.Database.{has_guid, numbers}
-use Rattle.handle_db.specs.declared.entry.Entry.{Entry}
+use Rattle.handle_db.specs.declared.handle_entry.HandleEntry.{HandleEntry}
 use Rattle.handle_db.proofs.places.count_that_have.Given as goal
 
 -- those of the entries so far, no more than the entries
-pub record SoFar (guid : List ℕ) (entries : List Entry) (index count : ℕ) : Type 0 where
+pub record SoFar (guid : List ℕ) (entries : List HandleEntry) (index count : ℕ) : Type 0 where
   pub counted : count ≡ length (numbers (filter (has_guid guid) (take index entries)))
   pub few : count ≤ index
 

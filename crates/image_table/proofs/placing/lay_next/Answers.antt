@@ -4,7 +4,7 @@ use Rattle.world_model.specs.declared.fault.WorldFault.{WorldFault}
 use Rattle.world_model.specs.declared.fault.WorldFault.TheVariants.{Full}
 use Rattle.world_model.specs.World.{State}
 use Rattle.world_model.specs.Images.{entry_of, image_added, is_image_full}
-use Rattle.world_model.proofs.Finding.{found}
+use Rattle.world_model.proofs.ImageLaws.{found}
 use Rattle.image_table.proofs.placing.lay_next.Goals as goal
 
 -- the handle that is given is the next one

@@ -13,5 +13,5 @@ enter-requires-clause-verdict c =
     let w = c.args.w.now.now in
     last_of_six (can_store c.args.out w) (is_some (interface_of c.args.handle c.args.guid w.soft.database))
     (is_live c.args.agent w.soft.database) (is_none_or_live c.args.controller w.soft.database) (is_legal c.args.attr)
-    (may_enter (judge (records_of w.soft.records.held c.args.handle c.args.guid) c.args.agent c.args.controller c.args.attr))
+    (may_enter (judge (records_of w.soft.records.entries c.args.handle c.args.guid) c.args.agent c.args.controller c.args.attr))
     c.requires

@@ -3,13 +3,13 @@ use Rattle.std.proofs.lemmas.List.{length-take-le, take_all}
 use Rattle.pe_image.specs.Headers.{headers_of}
 use Rattle.pe_image.specs.ImageRules.{size_of}
 use Rattle.pe_image.specs.LaidImage.{headers_alone}
-use Rattle.pe_image.proofs.AcceptedLemmas.{accepted_numbers}
-use Rattle.pe_image.proofs.LaidLemmas.{length-headers_alone}
+use Rattle.pe_image.proofs.RuleLemmas.{keeps_limits}
+use Rattle.pe_image.proofs.ImageByteLemmas.{length-headers_alone}
 use Rattle.pe_image.proofs.laying.headers_alone.Goals as goal
 
 pub slice_bounds-extend_from_slice-end : goal.slice_bounds-extend_from_slice-end
 slice_bounds-extend_from_slice-end c =
-    let numbers = accepted_numbers c.args.bytes.now c.requires in
+    let numbers = keeps_limits c.args.bytes.now c.requires in
     sym (length-take-le c.size_of_headers.result c.args.bytes.now (omega arith))
 
 -- the front of the file, resized to the size of the image
@@ -17,7 +17,7 @@ resized : (c : goal.In_ok-resize) → c.resize.new.self.items ≡ headers_alone 
 unfolding headers_alone
 resized c =
     let bytes = c.args.bytes.now in
-    let numbers = accepted_numbers bytes c.requires in
+    let numbers = keeps_limits bytes c.requires in
     let size = (headers_of bytes).size_of_headers in
     let taken : length (take size bytes) ≡ size = length-take-le size bytes (omega arith) in
     let front : c.extend_from_slice.new.self.items ≡ take size bytes =
@@ -32,5 +32,5 @@ returns-clause-bytes c = resized c
 pub returns-clause-size : goal.returns-clause-size
 returns-clause-size c =
     let bytes = c.args.bytes.now in
-    let numbers = accepted_numbers bytes c.requires in
+    let numbers = keeps_limits bytes c.requires in
     ap length (resized c) ∙ length-headers_alone bytes numbers.headers_in_image numbers.headers_in_file

@@ -2,7 +2,7 @@ use Rattle.std.proofs.Common.{◌≡◌, ℕ, drop, length}
 use Rattle.pe_image.specs.Headers.{sections_of}
 use Rattle.pe_image.specs.ImageRules.{size_of}
 use Rattle.pe_image.specs.LaidImage.{byte_at}
-use Rattle.pe_image.proofs.LaidLemmas.{byte_over}
+use Rattle.pe_image.proofs.ImageByteLemmas.{byte_over}
 use Rattle.pe_image.proofs.laying.lay_sections.Given as goal
 
 -- the sections that are left, over the image so far, give the image

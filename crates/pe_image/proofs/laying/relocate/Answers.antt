@@ -1,6 +1,6 @@
 use Rattle.std.proofs.Common.{◌≡◌, true, Some, sym, ◌∙◌}
 use Rattle.pe_image.specs.Relocations.{has_directory, directory_place}
-use Rattle.pe_image.proofs.AcceptedLemmas.{good_relocations}
+use Rattle.pe_image.proofs.RuleLemmas.{good_relocations}
 use Rattle.pe_image.proofs.laying.relocate.Goals as goal
 
 -- the directory of an accepted file is good

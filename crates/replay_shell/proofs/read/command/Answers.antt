@@ -1,6 +1,6 @@
 use Rattle.std.proofs.Common.{◌∙◌, ap}
 use Rattle.std.specs.List.{list_all}
-use Rattle.replay_shell.specs.ScriptGrammar.{is_text_byte}
+use Rattle.text_lines.specs.Words.{is_text_byte}
 use Rattle.replay_shell.proofs.ScriptLemmas.{word_at-text}
 use Rattle.replay_shell.proofs.read.command.Goals as goal
 

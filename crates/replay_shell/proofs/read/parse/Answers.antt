@@ -1,8 +1,9 @@
-use Rattle.std.proofs.Common.{List, sym, ◌≡◌, ◌+◌, ◌++◌, ◌≤◌, ◌∙◌, Ok, Err, [], ◌∷◌, ap, arith, rules}
+use Rattle.std.proofs.Common.{List, sym, ◌≡◌, ◌+◌, ◌++◌, ◌≤◌, ◌∙◌, Err, [], ◌∷◌, ap, arith, rules}
 use Rattle.std.specs.Option.{option_to_list}
 use Rattle.std.specs.Str.Lines.{lines}
 use Rattle.fw_types.specs.declared.command.Command.{Command}
-use Rattle.replay_shell.specs.ScriptGrammar.{line_of, script_of}
+use Rattle.replay_shell.specs.declared.script.TheConstants.{MOST_LINES}
+use Rattle.replay_shell.specs.ScriptGrammar.{accepted, line_of, script_of}
 use Rattle.replay_shell.proofs.ScriptLemmas.{script_from, script_from-line, script_from-end, number-small, Gives-refused, lines-empty}
 use Rattle.replay_shell.proofs.read.parse.Goals as goal
 
@@ -12,19 +13,19 @@ loop-text-preserved c =
     let number = c.loop-text.number in
     let line = c.first_line.result.0.now in
     let rest = c.first_line.result.1.now in
-    let said : line_of number line ≡ Ok c.in_ok-command.command = c.in_ok-command.ensures in
-    let small : number ≤ 100000 = number-small number line c.in_ok-command.command said in
-    let counted : c.saturating_add-number.result ≡ number + 1 = omega arith in
-    let kept : c.keep.new.commands.items ≡ commands ++ option_to_list c.in_ok-command.command = c.in_ok-keep.ensures in
+    let here : line_of number line ≡ accepted c.in_ok-command.command = c.in_ok-command.ensures in
+    let small : number ≤ MOST_LINES = number-small number line c.in_ok-command.command here in
+    let next : c.saturating_add-number.result ≡ number + 1 = omega arith in
+    let added : c.keep.new.commands.items ≡ commands ++ option_to_list c.in_ok-command.command = c.in_ok-keep.ensures in
     record {
-      same = rw (counted, kept) (c.loop-text.invariant.same ∙ ap (script_from commands number) c.first_line.ensures.lines ∙ script_from-line commands number line (lines rest) c.in_ok-command.command said);
+      same = rw (next, added) (c.loop-text.invariant.same ∙ ap (script_from commands number) c.first_line.ensures.lines ∙ script_from-line commands number line (lines rest) c.in_ok-command.command here);
       small = omega arith;
     }
 
 pub returns : goal.returns
 returns c =
     let none : lines c.loop-text.text.now ≡ [] = lines-empty c.loop-text.text.now (search rules) in
-    c.loop-text.invariant.same ∙ ap (script_from c.loop-text.commands.items c.loop-text.number) none ∙ script_from-end c.loop-text.commands.items c.loop-text.number ∙ ap (λ (commands : List Command). Ok (record { commands = commands })) (sym c.of.ensures)
+    c.loop-text.invariant.same ∙ ap (script_from c.loop-text.commands.items c.loop-text.number) none ∙ script_from-end c.loop-text.commands.items c.loop-text.number ∙ ap (λ (commands : List Command). accepted (record { commands = commands })) (sym c.of.ensures)
 
 pub returns-in_err-command : goal.returns-in_err-command
 returns-in_err-command c =
@@ -33,5 +34,5 @@ returns-in_err-command c =
     let line = c.first_line.result.0.now in
     let later = lines c.first_line.result.1.now in
     let fault : c.from_residual.result ≡ Err c.in_err-command.field-0.0 = search rules in
-    let told : script_of c.args.bytes.now ≡ script_from commands number (line ∷ later) = c.loop-text.invariant.same ∙ ap (script_from commands number) c.first_line.ensures.lines in
-    rw (fault, told) (Gives-refused commands number line later c.in_err-command.field-0.0 c.in_err-command.ensures)
+    let whole : script_of c.args.bytes.now ≡ script_from commands number (line ∷ later) = c.loop-text.invariant.same ∙ ap (script_from commands number) c.first_line.ensures.lines in
+    rw (fault, whole) (Gives-refused commands number line later c.in_err-command.field-0.0 c.in_err-command.ensures)

@@ -1,14 +1,15 @@
-use Rattle.std.proofs.Common.{◌≡◌, ◌≤◌, length}
+use Rattle.std.proofs.Common.{◌≡◌, ◌+◌, ◌≤◌, length}
 use Rattle.std.specs.Str.Lines.{lines}
+use Rattle.replay_shell.specs.declared.script.TheConstants.{MOST_LINES}
 use Rattle.replay_shell.specs.ScriptGrammar.{script_of}
 use Rattle.replay_shell.proofs.ScriptLemmas.{script_from}
 use Rattle.replay_shell.proofs.read.parse.Given as goal
 
--- the lines that are left go on behind the commands so far as all lines do
+-- the commands so far and the lines that are left make the script that all lines make
 abbrev pub invariant-loop-text : goal.invariant-loop-text
 invariant-loop-text l = record {
   same : script_of l.bytes ≡ script_from l.commands.items l.number (lines l.text);
-  small : l.number ≤ 100001;
+  small : l.number ≤ MOST_LINES + 1;
 }
 
 abbrev pub decreases-loop-text : goal.decreases-loop-text

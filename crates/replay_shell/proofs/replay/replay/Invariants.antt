@@ -7,8 +7,8 @@ use Rattle.replay_shell.proofs.replay.replay.Given as goal
 -- the texts of the commands so far were taken, and the machine goes on as the opening one does
 abbrev pub invariant-loop-command : goal.invariant-loop-command
 invariant-loop-command g l = record {
-  told : (files : Files) → g.F.Shelf.held l.initial.shelf ≡ Some files → SoFar files l.script.commands l.command-index l.machine (g.K.Sink.taken l.initial.sink) (g.K.Sink.taken l.sink);
-  held : g.F.Shelf.held l.shelf ≡ g.F.Shelf.held l.initial.shelf;
+  taken : (files : Files) → g.F.Shelf.files l.initial.shelf ≡ Some files → SoFar files l.script.commands l.command-index l.machine (g.K.Sink.taken l.initial.sink) (g.K.Sink.taken l.sink);
+  same_files : g.F.Shelf.files l.shelf ≡ g.F.Shelf.files l.initial.shelf;
   shelf_faults : g.F.Shelf.faults l.initial.shelf ≤ g.F.Shelf.faults l.shelf;
   sink_faults : g.K.Sink.faults l.initial.sink ≤ g.K.Sink.faults l.sink;
   shelf_becomes : g.F.Shelf.becomes l.initial.shelf l.shelf;

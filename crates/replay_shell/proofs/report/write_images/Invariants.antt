@@ -5,6 +5,6 @@ use Rattle.replay_shell.proofs.report.write_images.Given as goal
 -- what was written and the lines that are left are the whole
 abbrev pub invariant-loop-note : goal.invariant-loop-note
 invariant-loop-note l = record {
-  counted : l.number ≡ l.note-index + 1;
+  numbered : l.number ≡ l.note-index + 1;
   whole : string_bytes l.initial.out ++ image_lines 1 l.images ≡ string_bytes l.out ++ image_lines l.number (drop l.note-index l.images);
 }

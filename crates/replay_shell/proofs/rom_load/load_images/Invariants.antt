@@ -1,14 +1,14 @@
 use Rattle.std.proofs.Common.{◌≡◌, length}
 use Rattle.driver_model.specs.Spending.{Spends}
 use Rattle.replay_shell.specs.Machine.{IsAtRest}
-use Rattle.replay_shell.specs.RomLoad.{came_of, none_tried, with_images}
+use Rattle.replay_shell.specs.RomLoad.{no_images, with_images}
 use Rattle.option_rom.specs.RomGrammar.{rom_in}
 use Rattle.replay_shell.proofs.rom_load.load_images.Given as goal
 
--- to try the images that are left is to try all images from the beginning
+-- to load the images that are left is to load all images from the beginning
 abbrev pub invariant-loop-image : goal.invariant-loop-image
 invariant-loop-image l = record {
-  done : with_images l.walk.images (came_of l.tried l.world.now) ≡ with_images (rom_in l.file).images (none_tried l.initial.world.now);
+  done : with_images l.walk.images (l.tally, l.world.now) ≡ with_images (rom_in l.file).images (no_images, l.initial.world.now);
   end : l.walk.end ≡ (rom_in l.file).end;
   spends : Spends l.initial.world.now l.world.now;
   rest : IsAtRest l.world;

@@ -1,7 +1,7 @@
 use Rattle.std.proofs.Common.{◌≡◌, None, length, sym, ap, ◌∙◌, arith}
 use Rattle.rom_builder.specs.MadeImage.{fault_of}
-use Rattle.rom_builder.proofs.MadeAccepted.{made_accepted}
-use Rattle.rom_builder.proofs.MadeLemmas.{too_long, buildable, few_bytes}
+use Rattle.rom_builder.proofs.AcceptanceLemmas.{made_accepted}
+use Rattle.rom_builder.proofs.SizeLemmas.{too_long, buildable, few_bytes}
 use Rattle.rom_builder.proofs.image.pe_of.Goals as goal
 
 -- the code alone is too long
@@ -10,8 +10,8 @@ returns-then-as_slice-clause-answer c =
     let size = ap length c.as_slice.ensures in
     too_long c.args.p.now (omega (arith, size, c.if-as_slice.true))
 
-pub made_image-requires-clause-entered : goal.made_image-requires-clause-entered
-made_image-requires-clause-entered c =
+pub made_image-requires-clause-entry : goal.made_image-requires-clause-entry
+made_image-requires-clause-entry c =
     let parts = c.args.p.now in
     let known : fault_of parts ≡ None = sym c.fault_of.ensures ∙ c.in-None.is in
     let ok = buildable parts known in

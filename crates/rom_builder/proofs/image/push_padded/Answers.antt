@@ -9,8 +9,8 @@ returns c =
     let bytes = c.args.bytes.now in
     let more = c.extend_from_slice.new.self in
     let end : ℕ = c.len.result + (c.aligned.result - length bytes) in
-    let held : length more.items ≤ end = omega (arith, more.ok.0) in
+    let in_file : length more.items ≤ end = omega (arith, more.ok.0) in
     let spare : end - vec_len more ≡ aligned (length bytes) - length bytes = omega (arith, c.aligned.ensures, c.len.ensures) in
     c.in_ok-resize.ensures.items
-    ∙ rw (take_all end more.items held, spare, c.in_ok-extend_from_slice.ensures.items)
+    ∙ rw (take_all end more.items in_file, spare, c.in_ok-extend_from_slice.ensures.items)
     (append_assoc c.args.file.now.items bytes (replicate (aligned (length bytes) - length bytes) 0))

@@ -1,4 +1,4 @@
-use Rattle.service_model.proofs.Leaving.{block-writable}
+use Rattle.service_model.proofs.SoftPart.{block-writable}
 use Rattle.service_model.proofs.laws.blocks_leave_writable.Goals as goal
 
 pub returns : goal.returns

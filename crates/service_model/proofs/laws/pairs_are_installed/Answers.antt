@@ -1,5 +1,8 @@
-use Rattle.service_model.proofs.Pairs.{pairs-go}
+use Rattle.service_model.proofs.InstallPairs.{pairs-go, row-goes}
 use Rattle.service_model.proofs.laws.pairs_are_installed.Goals as goal
 
-pub returns : goal.returns
-returns c = pairs-go
+pub returns-clause-each : goal.returns-clause-each
+returns-clause-each c = pairs-go
+
+pub returns-clause-row : goal.returns-clause-row
+returns-clause-row c = row-goes

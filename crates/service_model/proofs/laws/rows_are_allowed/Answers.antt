@@ -1,4 +1,4 @@
-use Rattle.service_model.proofs.Rows.{rows-allowed}
+use Rattle.service_model.proofs.AllowedRows.{rows-allowed}
 use Rattle.service_model.proofs.laws.rows_are_allowed.Goals as goal
 
 pub returns : goal.returns

@@ -1,8 +1,8 @@
-use Rattle.service_model.proofs.Leaving.{Changes, Ground, fixed-stay, kept-by, kept-stays, stacks-stay}
+use Rattle.service_model.proofs.SoftPart.{Changes, Ground, fixed-stay, kept-by, kept-stays, stacks-stay}
 use Rattle.service_model.proofs.laws.services_keep.Goals as goal
 
-pub returns-clause-fixed : goal.returns-clause-fixed
-returns-clause-fixed c =
+pub returns-clause-fixed_segments : goal.returns-clause-fixed_segments
+returns-clause-fixed_segments c =
     let changes : Changes = record {
       puts = c.changes_keep.ensures.putting;
       sets = c.changes_keep.ensures.tpl;

@@ -1,4 +1,5 @@
-use Rattle.service_model.proofs.Parts.{events-stay, tpl-stays, traps-change-nothing, units-never-rise}
+use Rattle.service_model.proofs.UntouchedParts.{events-stay, tpl-stays, units-never-rise}
+use Rattle.service_model.proofs.ChangeAnswers.{errors-change-nothing, traps-change-nothing}
 use Rattle.service_model.proofs.laws.services_leave.Goals as goal
 
 pub returns-clause-tpl : goal.returns-clause-tpl
@@ -12,3 +13,6 @@ returns-clause-units c = units-never-rise
 
 pub returns-clause-traps : goal.returns-clause-traps
 returns-clause-traps c = traps-change-nothing
+
+pub returns-clause-errors : goal.returns-clause-errors
+returns-clause-errors c = errors-change-nothing

@@ -1,7 +1,8 @@
 use Rattle.std.proofs.Common.{replicate, sym, ap, ◌∙◌}
 use Rattle.service_thunks.specs.Services.{boot_services}
-use Rattle.service_thunks.specs.Tables.{boot_signature, boot_table, boot_table_size, header_fields, put_all, service_fields}
-use Rattle.service_thunks.proofs.FieldLemmas.{put_all-append}
+use Rattle.fw_types.specs.Layout.{put_all}
+use Rattle.fw_types.proofs.LayoutLemmas.{put_all-append}
+use Rattle.service_thunks.specs.Tables.{boot_signature, boot_table, boot_table_size, header_fields, service_fields}
 use Rattle.service_thunks.proofs.tables.boot_table.Goals as goal
 
 -- the header, and then the services

@@ -1,6 +1,7 @@
 use Rattle.std.proofs.Common.{◌+◌, ◌*◌, sym, ap, ◌∙◌}
-use Rattle.service_thunks.specs.Services.{boot_base}
-use Rattle.service_thunks.specs.Tables.{put_number}
+use Rattle.byteorder.specs.Endian.{little_bytes}
+use Rattle.fw_types.specs.Layout.{put}
+use Rattle.guest_memory.specs.declared.address_map.TheConstants.{BOOT_SERVICES}
 use Rattle.service_thunks.proofs.FieldLemmas.{service_more}
 use Rattle.service_thunks.proofs.tables.put_services.Goals as goal
 
@@ -9,5 +10,5 @@ pub loop-place-preserved : goal.loop-place-preserved
 loop-place-preserved c =
     let place = c.loop-place.place in
     c.put_u64.ensures
-    ∙ ap (put_number (24 + 8 * place) 8 (boot_base + (24 + 8 * place))) c.loop-place.invariant
+    ∙ ap (put (24 + 8 * place) (little_bytes 8 (BOOT_SERVICES + (24 + 8 * place)))) c.loop-place.invariant
     ∙ sym (service_more place c.args.table.now c.loop-place-test.true)

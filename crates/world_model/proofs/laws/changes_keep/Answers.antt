@@ -1,4 +1,4 @@
-use Rattle.world_model.proofs.OpeningKept.{opening_kept}
+use Rattle.world_model.proofs.OpeningState.{opening_kept}
 use Rattle.world_model.proofs.KeepingBlocks.{allotting, freeing, putting, tpl_set, writing}
 use Rattle.world_model.proofs.KeepingInterfaces.{installing, uninstalling}
 use Rattle.world_model.proofs.KeepingImages.{adding, dropping}

@@ -1,4 +1,4 @@
-use Rattle.world_model.proofs.FixedStay.{mapping, putting, unmapping, writing}
+use Rattle.world_model.proofs.FixedSegments.{mapping, putting, unmapping, writing}
 use Rattle.world_model.proofs.laws.fixed_segments_stay.Goals as goal
 
 pub returns : goal.returns

@@ -1,4 +1,4 @@
-use Rattle.world_model.proofs.Marking.{commit, rollback}
+use Rattle.world_model.proofs.MarkLaws.{commit, rollback}
 use Rattle.world_model.proofs.laws.marks_are_spent.Goals as goal
 
 pub returns : goal.returns

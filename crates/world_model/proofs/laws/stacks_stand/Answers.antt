@@ -1,4 +1,4 @@
-use Rattle.world_model.proofs.StacksStand.{adding, allotting, dropping, freeing, popped_is_gone, popping, pushed_is_there, pushing, putting, stack_of_level, writing}
+use Rattle.world_model.proofs.StackLaws.{adding, allotting, dropping, freeing, popping_undoes_push, popping, pushed_stack_is_there, pushing, putting, stack_of_level, writing}
 use Rattle.world_model.proofs.laws.stacks_stand.Goals as goal
 
 pub returns : goal.returns
@@ -12,6 +12,6 @@ returns c = record {
   dropping = dropping;
   pushing = pushing;
   popping = popping;
-  there = pushed_is_there;
-  gone = popped_is_gone;
+  there = pushed_stack_is_there;
+  undone = popping_undoes_push;
 }

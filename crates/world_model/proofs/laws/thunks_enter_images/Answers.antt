@@ -1,4 +1,4 @@
-use Rattle.world_model.proofs.Entering.{dropping, entering, finding, keeping_others}
+use Rattle.world_model.proofs.ThunkLaws.{dropping, entering, finding, keeping_others}
 use Rattle.world_model.proofs.laws.thunks_enter_images.Goals as goal
 
 pub returns : goal.returns

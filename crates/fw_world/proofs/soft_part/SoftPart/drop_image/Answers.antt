@@ -10,29 +10,30 @@ use Rattle.world_model.specs.declared.image.LoadedImage.{LoadedImage}
 use Rattle.world_model.specs.World.{Soft}
 use Rattle.world_model.specs.Images.{image_of}
 use Rattle.world_model.specs.Thunks.{without_thunks}
+use Rattle.fw_world.specs.Soft.{soft_of}
 use Rattle.fw_world.proofs.Keeps.{db_dropped, dropped_is, kept_dropped}
 use Rattle.fw_world.proofs.soft_part.SoftPart.drop_image.Goals as goal
 
 pub returns-in-None-clause-answer : goal.returns-in-None-clause-answer
 returns-in-None-clause-answer c =
     let inside = c.self.inside in
-    let soft : Soft = record { memory = inside.memory; database = inside.database; records = inside.records; images = inside.images.items; thunks = inside.thunks.items; tpl = inside.tpl; next_image = inside.next_image; next_block = inside.next_block; next_thunk = inside.next_thunk } in
-    let found : image_of c.args.handle inside.images.items ≡ None =
-    ap (λ (n : ℕ). image_of n inside.images.items) (sym c.get.ensures.value) ∙ ap (λ (xs : List LoadedImage). image_of c.get.result xs) (sym c.as_slice.ensures.value) ∙ sym c.in-None.ensures
+    let soft : Soft = soft_of inside.memory inside.database inside.records inside.plain in
+    let found : image_of c.args.handle inside.plain.images.items ≡ None =
+    ap (λ (n : ℕ). image_of n inside.plain.images.items) (sym c.get.ensures.value) ∙ ap (λ (xs : List LoadedImage). image_of c.get.result xs) (sym c.as_slice.ensures.value) ∙ sym c.in-None.ensures
     in
     rw (← c.self.view_is, found) refl
 
 pub invariant_of-self : goal.invariant_of-self
 invariant_of-self c =
     let inside = c.self.inside in
-    let soft : Soft = record { memory = inside.memory; database = inside.database; records = inside.records; images = inside.images.items; thunks = inside.thunks.items; tpl = inside.tpl; next_image = inside.next_image; next_block = inside.next_block; next_thunk = inside.next_thunk } in
+    let soft : Soft = soft_of inside.memory inside.database inside.records inside.plain in
     let one = c.in-Some.image.now in
-    let found : image_of c.args.handle inside.images.items ≡ Some one =
-    ap (λ (n : ℕ). image_of n inside.images.items) (sym c.get.ensures.value) ∙ ap (λ (xs : List LoadedImage). image_of c.get.result xs) (sym c.as_slice.ensures.value) ∙ sym c.in-Some.ensures
+    let found : image_of c.args.handle inside.plain.images.items ≡ Some one =
+    ap (λ (n : ℕ). image_of n inside.plain.images.items) (sym c.get.ensures.value) ∙ ap (λ (xs : List LoadedImage). image_of c.get.result xs) (sym c.as_slice.ensures.value) ∙ sym c.in-Some.ensures
     in
     let memory_is : c.unmap.new.self ≡ unmapped (unmapped inside.memory one.base) one.block = c.unmap.ensures.rest ∙ ap (λ (m : List Segment). unmapped m one.block) c.unmap-bytes.ensures.rest in
-    let thunks_is : c.drop_from_segment.new.thunks.items ≡ without_thunks (beginning_at inside.memory one.base) inside.thunks.items =
-    c.drop_from_segment.ensures ∙ ap (λ (bytes : Result Segment MemRefusal). without_thunks bytes inside.thunks.items) c.unmap-bytes.ensures.answer in
+    let thunks_is : c.drop_from_segment.new.thunks.items ≡ without_thunks (beginning_at inside.memory one.base) inside.plain.thunks.items =
+    c.drop_from_segment.ensures ∙ ap (λ (bytes : Result Segment MemRefusal). without_thunks bytes inside.plain.thunks.items) c.unmap-bytes.ensures.answer in
     let db_is : c.remove.new.self ≡ removed one.handle (known_guid LoadedImageProtocol) inside.database =
     db_dropped soft c.args.handle one c.remove.result c.remove.new.self c.self.invariant found
     (rw c.known-guid.ensures at c.remove.ensures.answer)
@@ -43,24 +44,24 @@ invariant_of-self c =
 pub returns-clause-answer : goal.returns-clause-answer
 returns-clause-answer c =
     let inside = c.self.inside in
-    let soft : Soft = record { memory = inside.memory; database = inside.database; records = inside.records; images = inside.images.items; thunks = inside.thunks.items; tpl = inside.tpl; next_image = inside.next_image; next_block = inside.next_block; next_thunk = inside.next_thunk } in
+    let soft : Soft = soft_of inside.memory inside.database inside.records inside.plain in
     let one = c.in-Some.image.now in
-    let found : image_of c.args.handle inside.images.items ≡ Some one =
-    ap (λ (n : ℕ). image_of n inside.images.items) (sym c.get.ensures.value) ∙ ap (λ (xs : List LoadedImage). image_of c.get.result xs) (sym c.as_slice.ensures.value) ∙ sym c.in-Some.ensures
+    let found : image_of c.args.handle inside.plain.images.items ≡ Some one =
+    ap (λ (n : ℕ). image_of n inside.plain.images.items) (sym c.get.ensures.value) ∙ ap (λ (xs : List LoadedImage). image_of c.get.result xs) (sym c.as_slice.ensures.value) ∙ sym c.in-Some.ensures
     in
     rw (← c.self.view_is, found) refl
 
 pub returns-clause-ok : goal.returns-clause-ok
 returns-clause-ok c =
     let inside = c.self.inside in
-    let soft : Soft = record { memory = inside.memory; database = inside.database; records = inside.records; images = inside.images.items; thunks = inside.thunks.items; tpl = inside.tpl; next_image = inside.next_image; next_block = inside.next_block; next_thunk = inside.next_thunk } in
+    let soft : Soft = soft_of inside.memory inside.database inside.records inside.plain in
     let one = c.in-Some.image.now in
-    let found : image_of c.args.handle inside.images.items ≡ Some one =
-    ap (λ (n : ℕ). image_of n inside.images.items) (sym c.get.ensures.value) ∙ ap (λ (xs : List LoadedImage). image_of c.get.result xs) (sym c.as_slice.ensures.value) ∙ sym c.in-Some.ensures
+    let found : image_of c.args.handle inside.plain.images.items ≡ Some one =
+    ap (λ (n : ℕ). image_of n inside.plain.images.items) (sym c.get.ensures.value) ∙ ap (λ (xs : List LoadedImage). image_of c.get.result xs) (sym c.as_slice.ensures.value) ∙ sym c.in-Some.ensures
     in
     let memory_is : c.unmap.new.self ≡ unmapped (unmapped inside.memory one.base) one.block = c.unmap.ensures.rest ∙ ap (λ (m : List Segment). unmapped m one.block) c.unmap-bytes.ensures.rest in
-    let thunks_is : c.drop_from_segment.new.thunks.items ≡ without_thunks (beginning_at inside.memory one.base) inside.thunks.items =
-    c.drop_from_segment.ensures ∙ ap (λ (bytes : Result Segment MemRefusal). without_thunks bytes inside.thunks.items) c.unmap-bytes.ensures.answer in
+    let thunks_is : c.drop_from_segment.new.thunks.items ≡ without_thunks (beginning_at inside.memory one.base) inside.plain.thunks.items =
+    c.drop_from_segment.ensures ∙ ap (λ (bytes : Result Segment MemRefusal). without_thunks bytes inside.plain.thunks.items) c.unmap-bytes.ensures.answer in
     let db_is : c.remove.new.self ≡ removed one.handle (known_guid LoadedImageProtocol) inside.database =
     db_dropped soft c.args.handle one c.remove.result c.remove.new.self c.self.invariant found
     (rw c.known-guid.ensures at c.remove.ensures.answer)

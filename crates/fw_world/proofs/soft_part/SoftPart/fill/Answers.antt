@@ -3,12 +3,13 @@ use Rattle.std.proofs.lemmas.List.{length-replicate}
 use Rattle.guest_memory.specs.GuestMemory.{is_writable_range}
 use Rattle.world_model.specs.World.{Soft}
 use Rattle.world_model.proofs.KeepingBlocks.{putting}
+use Rattle.fw_world.specs.Soft.{soft_of}
 use Rattle.fw_world.proofs.soft_part.SoftPart.fill.Goals as goal
 
 pub invariant_of-self : goal.invariant_of-self
 invariant_of-self c =
     let inside = c.self.inside in
-    let soft : Soft = record { memory = inside.memory; database = inside.database; records = inside.records; images = inside.images.items; thunks = inside.thunks.items; tpl = inside.tpl; next_image = inside.next_image; next_block = inside.next_block; next_thunk = inside.next_thunk } in
+    let soft : Soft = soft_of inside.memory inside.database inside.records inside.plain in
     let bytes = replicate c.args.n c.args.byte in
     let can : is_writable_range soft.memory c.args.at (length bytes) ≡ true =
     ap (λ (n : ℕ). is_writable_range soft.memory c.args.at n) (length-replicate c.args.n c.args.byte) ∙ ap (λ (s : Soft). is_writable_range s.memory c.args.at c.args.n) c.self.view_is ∙ c.requires in

@@ -4,13 +4,14 @@ use Rattle.guest_memory.specs.GuestMemory.{begins}
 use Rattle.world_model.specs.World.{Soft}
 use Rattle.world_model.specs.Blocks.{free_answer, is_image_block}
 use Rattle.world_model.proofs.KeepingBlocks.{freeing}
+use Rattle.fw_world.specs.Soft.{soft_of}
 use Rattle.fw_world.proofs.soft_part.SoftPart.free.Goals as goal
 
 pub invariant_of-self : goal.invariant_of-self
 invariant_of-self c =
     let inside = c.self.inside in
-    let soft : Soft = record { memory = inside.memory; database = inside.database; records = inside.records; images = inside.images.items; thunks = inside.thunks.items; tpl = inside.tpl; next_image = inside.next_image; next_block = inside.next_block; next_thunk = inside.next_thunk } in
+    let soft : Soft = soft_of inside.memory inside.database inside.records inside.plain in
     let there : begins c.args.kind c.args.at inside.memory ≡ true = sym c.begins.ensures ∙ c.if-not-begins.false in
-    let other : is_image_block c.args.at inside.images.items ≡ false = ap (λ (s : Soft). is_image_block c.args.at s.images) c.self.view_is ∙ sym c.is_image_block.ensures ∙ c.if-is_image_block.false in
+    let other : is_image_block c.args.at inside.plain.images.items ≡ false = ap (λ (s : Soft). is_image_block c.args.at s.images) c.self.view_is ∙ sym c.is_image_block.ensures ∙ c.if-is_image_block.false in
     let done : free_answer c.args.at c.args.kind soft ≡ Ok tt = rw (there, other) refl in
     rw c.unmap.ensures.rest (freeing soft c.args.at c.args.kind c.self.invariant c.requires done)

@@ -1,11 +1,11 @@
-use Rattle.std.proofs.Common.{is_ok, ap, ◌∙◌}
-use Rattle.guest_memory.specs.GuestMemory.{lie_from}
-use Rattle.guest_memory.proofs.SegmentLemmas.{lie_from-answered}
+use Rattle.std.proofs.Common.{List, is_ok, subst, sym}
+use Rattle.guest_memory.specs.Places.{IsInOrder}
+use Rattle.guest_memory.specs.declared.segment.Segment.{Segment}
+use Rattle.guest_memory.proofs.TotalsLemmas.{in_order-answered}
 use Rattle.guest_memory.proofs.memory.MemoryGuestMem.write.Goals as goal
 
--- a write leaves where the segments lie
+-- a write leaves where the segments lie, and their totals
 pub invariant_of-self : goal.invariant_of-self
 invariant_of-self c =
-    ap (lie_from 0) c.write_in.ensures.bytes
-    ∙ lie_from-answered (is_ok c.write_in.result) c.self.inside.segments.items c.args.at c.args.n c.args.value
-    ∙ c.self.invariant
+    subst (λ (segments : List Segment). IsInOrder segments c.self.inside.totals) (sym c.write_in.ensures.bytes)
+    (in_order-answered (is_ok c.write_in.result) c.self.inside.segments.items c.self.inside.totals c.args.at c.args.n c.args.value c.self.invariant)

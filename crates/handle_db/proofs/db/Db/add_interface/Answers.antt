@@ -2,7 +2,7 @@ use Rattle.std.proofs.Common.{◌≡◌, List, Some, is_ok, ap, sym, subst, ◌�
 use Rattle.handle_db.specs.Database.{Database, IsSound}
 use Rattle.handle_db.specs.Installing.{install_answer, installed, with_interface}
 use Rattle.handle_db.specs.Places.{IsPlaceOf}
-use Rattle.handle_db.specs.declared.entry.Entry.{Entry}
+use Rattle.handle_db.specs.declared.handle_entry.HandleEntry.{HandleEntry}
 use Rattle.handle_db.proofs.Order.{nobody}
 use Rattle.handle_db.proofs.Keeping.{installing}
 use Rattle.handle_db.proofs.Changes.{appended_at}
@@ -19,9 +19,9 @@ pub invariant_of-self-2 : goal.invariant_of-self-2
 invariant_of-self-2 c =
     let db : Database = record { handles = c.self.inside.handles.items; next = c.self.inside.next; limit = c.self.inside.limit } in
     let ok = ap is_ok (ap (install_answer (Some c.args.handle) c.args.interface.guid) c.self.view_is ∙ c.in_ok-place.ensures.accepted) in
-    subst (λ (handles : List Entry). IsSound (record db { handles = handles })) (sym (appended c)) (installing (Some c.args.handle) c.args.interface db c.self.invariant ok)
+    subst (λ (handles : List HandleEntry). IsSound (record db { handles = handles })) (sym (appended c)) (installing (Some c.args.handle) c.args.interface db c.self.invariant ok)
 
 pub returns-clause-ok : goal.returns-clause-ok
 returns-clause-ok c =
     let db : Database = record { handles = c.self.inside.handles.items; next = c.self.inside.next; limit = c.self.inside.limit } in
-    ap (λ (handles : List Entry). record db { handles = handles }) (appended c) ∙ ap (installed (Some c.args.handle) c.args.interface) c.self.view_is
+    ap (λ (handles : List HandleEntry). record db { handles = handles }) (appended c) ∙ ap (installed (Some c.args.handle) c.args.interface) c.self.view_is

@@ -1,10 +1,11 @@
-use Rattle.std.proofs.Common.{◌≡◌, List, None, filter, get_or, set, sym, subst, ap, ◌∙◌}
+use Rattle.std.proofs.Common.{◌≡◌, ℕ, List, None, Ok, filter, get_or, length, nat_eq, set, sym, subst, ap, ◌∙◌}
 use Rattle.std.specs.List.{list_all, position, remove}
 use Rattle.handle_db.specs.Database.{Database, IsSound, is_guid, has_any}
 use Rattle.handle_db.specs.Removing.{remove_answer, removed, without_interface}
 use Rattle.handle_db.specs.Places.{IsPlaceOf, removed_at}
-use Rattle.handle_db.specs.declared.entry.Entry.{Entry}
-use Rattle.handle_db.proofs.Changes.{not_there, others_have, told_at, removed_at_is}
+use Rattle.handle_db.specs.declared.handle_entry.HandleEntry.{HandleEntry}
+use Rattle.handle_db.specs.declared.refusal.Removed.{Removed}
+use Rattle.handle_db.proofs.Changes.{not_there, others_have, place_fits, removal_at, removed_at_is}
 use Rattle.handle_db.proofs.Keeping.{removing}
 use Rattle.handle_db.proofs.db.Db.remove.Goals as goal
 
@@ -22,29 +23,29 @@ returns-in_default-interface_place-clause-answer c =
 taken : (c : goal.After-drop_at-arg-1) → c.take_at-interface.new.entries.items ≡ set c.self.inside.handles.items c.in-Some.at (removed_at c.in-Some-interface_place.place c.index.result.now)
 taken c =
     c.take_at-interface.ensures.rest c.index.result.now
-    ∙ ap (λ (entry : Entry). set c.self.inside.handles.items c.in-Some.at (removed_at c.in-Some-interface_place.place entry)) (sym c.index.ensures)
+    ∙ ap (λ (entry : HandleEntry). set c.self.inside.handles.items c.in-Some.at (removed_at c.in-Some-interface_place.place entry)) (sym c.index.ensures)
 
 pub drop_at-requires-clause-others : goal.drop_at-requires-clause-others
 drop_at-requires-clause-others c =
-    ap (λ (handles : List Entry). list_all has_any (remove handles c.in-Some.at)) (taken c)
+    ap (λ (handles : List HandleEntry). list_all has_any (remove handles c.in-Some.at)) (taken c)
     ∙ others_have c.self.inside.handles.items c.in-Some.at (removed_at c.in-Some-interface_place.place c.index.result.now) c.self.invariant.kept
 
 -- and with those that have no interface gone
-left : (c : goal.After-drop_at) → c.drop_at.new.entries.items ≡ without_interface c.args.handle c.args.guid c.self.inside.handles.items
+left : (c : goal.After-removal) → c.drop_at.new.entries.items ≡ without_interface c.args.handle c.args.guid c.self.inside.handles.items
 left c =
     let db : Database = record { handles = c.self.inside.handles.items; next = c.self.inside.next; limit = c.self.inside.limit } in
     let is : IsPlaceOf c.args.handle db.handles c.in-Some.at = rw (c.get.ensures.value, c.as_slice.ensures.value) at c.in-Some.ensures.found in
     let found = sym (c.in-Some-interface_place.ensures ∙ ap (position (is_guid c.args.guid)) c.as_slice-interfaces.ensures) in
     let taken : c.take_at-interface.new.entries.items ≡ set c.self.inside.handles.items c.in-Some.at (removed_at c.in-Some-interface_place.place c.index.result.now) =
     c.take_at-interface.ensures.rest c.index.result.now
-    ∙ ap (λ (entry : Entry). set c.self.inside.handles.items c.in-Some.at (removed_at c.in-Some-interface_place.place entry)) (sym c.index.ensures) in
+    ∙ ap (λ (entry : HandleEntry). set c.self.inside.handles.items c.in-Some.at (removed_at c.in-Some-interface_place.place entry)) (sym c.index.ensures) in
     c.drop_at.ensures ∙ ap (filter has_any) taken
     ∙ removed_at_is c.args.handle c.args.guid db c.in-Some.at c.index.result.now c.self.invariant is c.index.ensures c.in-Some-interface_place.place found
 
 pub invariant_of-self : goal.invariant_of-self
 invariant_of-self c =
     let db : Database = record { handles = c.self.inside.handles.items; next = c.self.inside.next; limit = c.self.inside.limit } in
-    subst (λ (handles : List Entry). IsSound (record db { handles = handles })) (sym (left c)) (removing c.args.handle c.args.guid db c.self.invariant)
+    subst (λ (handles : List HandleEntry). IsSound (record db { handles = handles })) (sym (left c)) (removing c.args.handle c.args.guid db c.self.invariant)
 
 pub returns-clause-answer : goal.returns-clause-answer
 returns-clause-answer c =
@@ -55,11 +56,20 @@ returns-clause-answer c =
     let interface = c.take_at-interface.result in
     let found = sym (c.in-Some-interface_place.ensures ∙ ap (position (is_guid c.args.guid)) c.as_slice-interfaces.ensures) in
     let read : interface ≡ get_or entry.interfaces place interface =
-    c.take_at-interface.ensures.taken entry ∙ ap (λ (e : Entry). get_or e.interfaces place interface) (sym c.index.ensures) in
-    rw c.as_slice-interfaces.ensures
-    (sym (ap (remove_answer c.args.handle c.args.guid) (sym c.self.view_is) ∙ told_at c.args.handle c.args.guid db c.in-Some.at entry c.self.invariant is c.index.ensures place found interface read))
+    c.take_at-interface.ensures.taken entry ∙ ap (λ (e : HandleEntry). get_or e.interfaces place interface) (sym c.index.ensures) in
+    let count : length c.as_slice-interfaces.result.now ≡ length entry.interfaces = ap length c.as_slice-interfaces.ensures in
+    let removal : ℕ → Removed = λ n. record { interface = interface.interface; owner = interface.owner; place = place; gone = nat_eq n 1 } in
+    ap Ok (c.removal.ensures ∙ ap removal count)
+    ∙ sym (ap (remove_answer c.args.handle c.args.guid) (sym c.self.view_is) ∙ removal_at c.args.handle c.args.guid db c.in-Some.at entry c.self.invariant is c.index.ensures place found interface read)
 
 pub returns-clause-ok : goal.returns-clause-ok
 returns-clause-ok c =
     let db : Database = record { handles = c.self.inside.handles.items; next = c.self.inside.next; limit = c.self.inside.limit } in
-    ap (λ (handles : List Entry). record db { handles = handles }) (left c) ∙ ap (removed c.args.handle c.args.guid) c.self.view_is
+    ap (λ (handles : List HandleEntry). record db { handles = handles }) (left c) ∙ ap (removed c.args.handle c.args.guid) c.self.view_is
+
+pub removal-requires : goal.removal-requires
+removal-requires c =
+    let db : Database = record { handles = c.self.inside.handles.items; next = c.self.inside.next; limit = c.self.inside.limit } in
+    let is : IsPlaceOf c.args.handle db.handles c.in-Some.at = rw (c.get.ensures.value, c.as_slice.ensures.value) at c.in-Some.ensures.found in
+    let found = sym (c.in-Some-interface_place.ensures ∙ ap (position (is_guid c.args.guid)) c.as_slice-interfaces.ensures) in
+    place_fits c.args.handle c.args.guid db c.in-Some.at c.index.result.now c.self.invariant is c.index.ensures c.in-Some-interface_place.place found

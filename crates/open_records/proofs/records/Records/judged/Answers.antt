@@ -1,8 +1,8 @@
 use Rattle.std.proofs.Common.{◌≡◌, ap, refl}
-use Rattle.open_records.specs.OpenRecords.{Table}
+use Rattle.open_records.specs.OpenRecords.{RecordTable}
 use Rattle.open_records.proofs.records.Records.judged.Goals as goal
 
 pub returns : goal.returns
 returns c =
-    let held : c.self.inside.held.items ≡ c.args.self.now.held = ap (λ (table : Table). table.held) c.self.view_is in
-    rw (c.verdict_of.ensures, c.strong_among.ensures, c.equal_among.ensures, c.first-rec.ensures.value, c.of_interface-mine.ensures, c.as_slice.ensures.value, held) refl
+    let entries : c.self.inside.entries.items ≡ c.args.self.now.entries = ap (λ (table : RecordTable). table.entries) c.self.view_is in
+    rw (c.verdict_of.ensures, c.strong_among.ensures, c.equal_among.ensures, c.first-rec.ensures.value, c.of_interface-mine.ensures, c.as_slice.ensures.value, entries) refl

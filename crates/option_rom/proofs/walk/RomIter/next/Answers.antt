@@ -15,9 +15,9 @@ returns-in-Some-clause-end c =
 pub returns-in_default-clause-image : goal.returns-in_default-clause-image
 returns-in_default-clause-image c =
     let inside = c.self.inside in
-    (walk_at-image inside.rest.now inside.place c.args.self.now c.image_length.result c.image_at.result c.place_behind-self-inside.result c.in-Reading.is c.self.view_is c.in_default.ensures.end c.image_length.ensures c.image_at.ensures c.place_behind-self-inside.ensures).0
+    (walk_at-image inside.rest.now inside.place c.args.self.now c.image_length.result c.image_at.result c.place_after-self-inside.result c.in-Reading.is c.self.view_is c.in_default.ensures.end c.image_length.ensures c.image_at.ensures c.place_after-self-inside.ensures).0
 
 pub returns-in_default-clause-end : goal.returns-in_default-clause-end
 returns-in_default-clause-end c =
     let inside = c.self.inside in
-    sym (walk_at-image inside.rest.now inside.place c.args.self.now c.image_length.result c.image_at.result c.place_behind-self-inside.result c.in-Reading.is c.self.view_is c.in_default.ensures.end c.image_length.ensures c.image_at.ensures c.place_behind-self-inside.ensures).1
+    sym (walk_at-image inside.rest.now inside.place c.args.self.now c.image_length.result c.image_at.result c.place_after-self-inside.result c.in-Reading.is c.self.view_is c.in_default.ensures.end c.image_length.ensures c.image_at.ensures c.place_after-self-inside.ensures).1

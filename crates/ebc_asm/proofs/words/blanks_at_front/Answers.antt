@@ -1,8 +1,0 @@
-use Rattle.std.proofs.Common.{length, arith, sym, rules}
-use Rattle.std.proofs.lemmas.List.Sums.{prefix_len_is}
-use Rattle.ebc_asm.specs.Assembly.{is_blank}
-use Rattle.ebc_asm.proofs.words.blanks_at_front.Goals as goal
-
-pub returns-clause-value : goal.returns-clause-value
-returns-clause-value c =
-    sym (prefix_len_is is_blank c.args.text.now (length c.args.text.now) 0 (omega arith) (search rules) (λ h. absurd (omega (arith, h))))

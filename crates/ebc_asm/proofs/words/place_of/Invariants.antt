@@ -1,6 +1,0 @@
-use Rattle.std.proofs.Common.{◌≡◌, ℕ, ◌<◌, eqb, false, get_or}
-use Rattle.ebc_asm.proofs.words.place_of.Given as goal
-
--- the byte does not stand before i
-abbrev pub invariant-loop-i : goal.invariant-loop-i
-invariant-loop-i l = (k : ℕ) → k < l.i → eqb (get_or l.text k 0) l.byte ≡ false

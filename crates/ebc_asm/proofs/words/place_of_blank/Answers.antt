@@ -1,8 +1,0 @@
-use Rattle.std.proofs.Common.{length, arith, sym, rules}
-use Rattle.std.proofs.lemmas.List.Sums.{position_or_len_is}
-use Rattle.ebc_asm.specs.Assembly.{is_blank}
-use Rattle.ebc_asm.proofs.words.place_of_blank.Goals as goal
-
-pub returns-clause-value : goal.returns-clause-value
-returns-clause-value c =
-    sym (position_or_len_is is_blank c.args.text.now (length c.args.text.now) 0 (omega arith) (search rules) (λ h. absurd (omega (arith, h))))

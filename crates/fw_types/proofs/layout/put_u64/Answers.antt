@@ -1,0 +1,7 @@
+use Rattle.byteorder.specs.Endian.{little_bytes}
+use Rattle.fw_types.proofs.LayoutLemmas.{put_in_tail}
+use Rattle.fw_types.proofs.layout.put_u64.Goals as goal
+
+-- what the call writes into the rest is the field in its place
+pub returns : goal.returns
+returns c = put_in_tail c.args.offset (little_bytes 8 c.args.value) c.args.bytes.now c.write_u64.new.buf c.requires c.write_u64.ensures

@@ -1,0 +1,226 @@
+-- The totals of segments: what one more segment and one fewer make of them, what a write leaves, and how large they get.
+use Rattle.std.proofs.Common.{◌≡◌, ◌<◌, ◌≤◌, ℕ, ◌+◌, ◌^◌, Bool, true, false, not, nat_eq, nat_lt, cond, List, [], ◌∷◌, length, get_or, refl, ap, subst, sym, ◌∙◌, arith}
+use Rattle.std.specs.Prelude.{insert, remove, if◌then◌else◌}
+use Rattle.std.specs.List.{list_any, sum_by}
+use Rattle.std.proofs.lemmas.List.Sums.{sum_by-cons, sum_by-insert, sum_by-remove}
+use Rattle.std.proofs.lemmas.Bool.Decides.{nat_tests}
+use Rattle.byteorder.specs.Endian.{little_bytes}
+use Rattle.guest_memory.specs.Segment.{has_bytes, is_block, with_bytes, extent, end_of, meets}
+use Rattle.guest_memory.specs.GuestMemory.{lie_from, overlaps, put_bytes, written, kind_number, total_of, block_count, is_full}
+use Rattle.guest_memory.specs.Places.{IsInOrder, IsFirstFrom, IsPlaceOf, totals_of, total_in, with_segment, without_segment, is_full_by}
+use Rattle.guest_memory.specs.declared.segment.Segment.{Segment}
+use Rattle.guest_memory.specs.declared.segment.SegKind.{SegKind}
+use Rattle.guest_memory.specs.declared.segment.SegKind.TheVariants.{Image, Pool, Firmware, Stack, Table}
+use Rattle.guest_memory.specs.declared.totals.Totals.{Totals}
+use Rattle.guest_memory.proofs.OrderLemmas.{head_lies}
+use Rattle.guest_memory.proofs.PlaceLemmas.{mapped_where, unmapped_where}
+use Rattle.guest_memory.proofs.PutLemmas.{IgnoresBytes, length-with_bytes, lie_from-put_bytes}
+use Rattle.guest_memory.proofs.SegmentLemmas.{lie_from-mapped_apart, lie_from-unmapped, written-as_bytes}
+
+-- the bytes of a segment that count for a kind
+abbrev pub size_in : SegKind → Segment → ℕ
+size_in kind segment = if nat_eq (kind_number segment.kind) (kind_number kind) then length segment.bytes else 0
+
+-- one if a segment is a block
+abbrev pub block_in : Segment → ℕ
+block_in segment = cond (is_block segment.kind) 1 0
+
+-- totals with equal parts are equal
+same_totals : (t u : Totals) → t.image ≡ u.image → t.pool ≡ u.pool → t.firmware ≡ u.firmware → t.stack ≡ u.stack → t.table ≡ u.table → t.blocks ≡ u.blocks → t ≡ u
+same_totals t u image pool firmware stack table blocks =
+    ap (λ (x : ℕ). record t { image = x }) image
+    ∙ ap (λ (x : ℕ). record t { image = u.image; pool = x }) pool
+    ∙ ap (λ (x : ℕ). record t { image = u.image; pool = u.pool; firmware = x }) firmware
+    ∙ ap (λ (x : ℕ). record t { image = u.image; pool = u.pool; firmware = u.firmware; stack = x }) stack
+    ∙ ap (λ (x : ℕ). record t { image = u.image; pool = u.pool; firmware = u.firmware; stack = u.stack; table = x }) table
+    ∙ ap (λ (x : ℕ). record t { image = u.image; pool = u.pool; firmware = u.firmware; stack = u.stack; table = u.table; blocks = x }) blocks
+
+-- ---- the total of a kind
+
+pub total_in-of : (segments : List Segment) (kind : SegKind) → total_in (totals_of segments) kind ≡ total_of segments kind
+total_in-of segments Image = refl
+total_in-of segments Pool = refl
+total_in-of segments Firmware = refl
+total_in-of segments Stack = refl
+total_in-of segments Table = refl
+
+pub is_full_by-of : (segments : List Segment) (kind : SegKind) (size : ℕ) → is_full_by (totals_of segments) kind size ≡ is_full segments kind size
+is_full_by-of segments Image size = refl
+is_full_by-of segments Pool size = refl
+is_full_by-of segments Firmware size = refl
+is_full_by-of segments Stack size = refl
+is_full_by-of segments Table size = refl
+
+-- ---- one more segment
+
+more : (segments : List Segment) (place : ℕ) (new : Segment) (kind : SegKind) → total_of (insert segments place new) kind ≡ total_of segments kind + size_in kind new
+more segments place new kind = sum_by-insert (size_in kind) segments place new
+
+more_blocks : (segments : List Segment) (place : ℕ) (new : Segment) → block_count (insert segments place new) ≡ block_count segments + block_in new
+more_blocks segments place new = sum_by-insert block_in segments place new
+
+totals_of-insert : (segments : List Segment) (place : ℕ) (base : ℕ) (bytes : List ℕ) (kind : SegKind)
+    → totals_of (insert segments place (record { base = base; bytes = bytes; kind = kind })) ≡ with_segment (totals_of segments) kind (length bytes)
+totals_of-insert segments place base bytes Image =
+    let new : Segment = record { base = base; bytes = bytes; kind = Image } in
+    same_totals (totals_of (insert segments place new)) (with_segment (totals_of segments) Image (length bytes))
+    (more segments place new Image) (omega (arith, more segments place new Pool)) (omega (arith, more segments place new Firmware)) (omega (arith, more segments place new Stack)) (omega (arith, more segments place new Table)) (omega (arith, more_blocks segments place new))
+totals_of-insert segments place base bytes Pool =
+    let new : Segment = record { base = base; bytes = bytes; kind = Pool } in
+    same_totals (totals_of (insert segments place new)) (with_segment (totals_of segments) Pool (length bytes))
+    (omega (arith, more segments place new Image)) (more segments place new Pool) (omega (arith, more segments place new Firmware)) (omega (arith, more segments place new Stack)) (omega (arith, more segments place new Table)) (more_blocks segments place new)
+totals_of-insert segments place base bytes Firmware =
+    let new : Segment = record { base = base; bytes = bytes; kind = Firmware } in
+    same_totals (totals_of (insert segments place new)) (with_segment (totals_of segments) Firmware (length bytes))
+    (omega (arith, more segments place new Image)) (omega (arith, more segments place new Pool)) (more segments place new Firmware) (omega (arith, more segments place new Stack)) (omega (arith, more segments place new Table)) (more_blocks segments place new)
+totals_of-insert segments place base bytes Stack =
+    let new : Segment = record { base = base; bytes = bytes; kind = Stack } in
+    same_totals (totals_of (insert segments place new)) (with_segment (totals_of segments) Stack (length bytes))
+    (omega (arith, more segments place new Image)) (omega (arith, more segments place new Pool)) (omega (arith, more segments place new Firmware)) (more segments place new Stack) (omega (arith, more segments place new Table)) (omega (arith, more_blocks segments place new))
+totals_of-insert segments place base bytes Table =
+    let new : Segment = record { base = base; bytes = bytes; kind = Table } in
+    same_totals (totals_of (insert segments place new)) (with_segment (totals_of segments) Table (length bytes))
+    (omega (arith, more segments place new Image)) (omega (arith, more segments place new Pool)) (omega (arith, more segments place new Firmware)) (omega (arith, more segments place new Stack)) (more segments place new Table) (omega (arith, more_blocks segments place new))
+
+-- ---- one fewer
+
+fewer : (segments : List Segment) (place : ℕ) (gone : Segment) (kind : SegKind) → place < length segments → get_or segments place gone ≡ gone → total_of (remove segments place) kind + size_in kind gone ≡ total_of segments kind
+fewer segments place gone kind inside here = ap (λ (s : Segment). total_of (remove segments place) kind + size_in kind s) (sym here) ∙ sum_by-remove (size_in kind) segments place gone inside
+
+fewer_blocks : (segments : List Segment) (place : ℕ) (gone : Segment) → place < length segments → get_or segments place gone ≡ gone → block_count (remove segments place) + block_in gone ≡ block_count segments
+fewer_blocks segments place gone inside here = ap (λ (s : Segment). block_count (remove segments place) + block_in s) (sym here) ∙ sum_by-remove block_in segments place gone inside
+
+totals_of-remove-by : (segments : List Segment) (place : ℕ) (kind : SegKind) (size : ℕ)
+    → total_of (remove segments place) Image + (if nat_eq (kind_number kind) 0 then size else 0) ≡ total_of segments Image
+    → total_of (remove segments place) Pool + (if nat_eq (kind_number kind) 1 then size else 0) ≡ total_of segments Pool
+    → total_of (remove segments place) Firmware + (if nat_eq (kind_number kind) 2 then size else 0) ≡ total_of segments Firmware
+    → total_of (remove segments place) Stack + (if nat_eq (kind_number kind) 3 then size else 0) ≡ total_of segments Stack
+    → total_of (remove segments place) Table + (if nat_eq (kind_number kind) 4 then size else 0) ≡ total_of segments Table
+    → block_count (remove segments place) + cond (is_block kind) 1 0 ≡ block_count segments
+    → totals_of (remove segments place) ≡ without_segment (totals_of segments) kind size
+totals_of-remove-by segments place Image size image pool firmware stack table blocks =
+    same_totals (totals_of (remove segments place)) (without_segment (totals_of segments) Image size)
+    (omega (arith, image)) (omega (arith, pool)) (omega (arith, firmware)) (omega (arith, stack)) (omega (arith, table)) (omega (arith, blocks))
+totals_of-remove-by segments place Pool size image pool firmware stack table blocks =
+    same_totals (totals_of (remove segments place)) (without_segment (totals_of segments) Pool size)
+    (omega (arith, image)) (omega (arith, pool)) (omega (arith, firmware)) (omega (arith, stack)) (omega (arith, table)) (omega (arith, blocks))
+totals_of-remove-by segments place Firmware size image pool firmware stack table blocks =
+    same_totals (totals_of (remove segments place)) (without_segment (totals_of segments) Firmware size)
+    (omega (arith, image)) (omega (arith, pool)) (omega (arith, firmware)) (omega (arith, stack)) (omega (arith, table)) (omega (arith, blocks))
+totals_of-remove-by segments place Stack size image pool firmware stack table blocks =
+    same_totals (totals_of (remove segments place)) (without_segment (totals_of segments) Stack size)
+    (omega (arith, image)) (omega (arith, pool)) (omega (arith, firmware)) (omega (arith, stack)) (omega (arith, table)) (omega (arith, blocks))
+totals_of-remove-by segments place Table size image pool firmware stack table blocks =
+    same_totals (totals_of (remove segments place)) (without_segment (totals_of segments) Table size)
+    (omega (arith, image)) (omega (arith, pool)) (omega (arith, firmware)) (omega (arith, stack)) (omega (arith, table)) (omega (arith, blocks))
+
+pub totals_of-remove : (segments : List Segment) (place : ℕ) (gone : Segment) → place < length segments → get_or segments place gone ≡ gone → totals_of (remove segments place) ≡ without_segment (totals_of segments) gone.kind (length gone.bytes)
+totals_of-remove segments place gone inside here =
+    totals_of-remove-by segments place gone.kind (length gone.bytes)
+    (fewer segments place gone Image inside here) (fewer segments place gone Pool inside here) (fewer segments place gone Firmware inside here) (fewer segments place gone Stack inside here) (fewer segments place gone Table inside here) (fewer_blocks segments place gone inside here)
+
+-- a segment's bytes are among those of its kind
+own_size : (kind : SegKind) (total rest size : ℕ) → rest + (if nat_eq (kind_number kind) (kind_number kind) then size else 0) ≡ total → size ≤ total
+own_size kind total rest size h = grind (arith, nat_tests, h)
+
+pub size-le-total : (segments : List Segment) (place : ℕ) (gone : Segment) → place < length segments → get_or segments place gone ≡ gone → length gone.bytes ≤ total_of segments gone.kind
+size-le-total segments place gone inside here =
+    own_size gone.kind (total_of segments gone.kind) (total_of (remove segments place) gone.kind) (length gone.bytes) (fewer segments place gone gone.kind inside here)
+
+pub block-counted : (segments : List Segment) (place : ℕ) (gone : Segment) → place < length segments → get_or segments place gone ≡ gone → is_block gone.kind ≡ true → 0 < block_count segments
+block-counted segments place gone inside here is =
+    let split : block_count (remove segments place) + cond (is_block gone.kind) 1 0 ≡ block_count segments = fewer_blocks segments place gone inside here in
+    let count : Bool → ℕ = λ b. cond b 1 0 in
+    let one : count (is_block gone.kind) ≡ count true = ap count is in
+    omega (arith, split, one)
+
+-- ---- a write
+
+sum_by-put_bytes-more : (f : Segment → ℕ) (segment : Segment) (segments : List Segment) (at : ℕ) (bytes : List ℕ) (has : Bool) → has_bytes segment at (length bytes) ≡ has → IgnoresBytes f
+    → sum_by f (put_bytes segments at bytes) ≡ sum_by f segments
+    → sum_by f (cond has (with_bytes segment at bytes ∷ segments) (segment ∷ put_bytes segments at bytes)) ≡ sum_by f (segment ∷ segments)
+sum_by-put_bytes-more f segment segments at bytes true has ignores rest =
+    sum_by-cons f (with_bytes segment at bytes) segments
+    ∙ ap (λ (n : ℕ). n + sum_by f segments) (ignores segment (with_bytes segment at bytes).bytes (length-with_bytes segment at bytes has))
+    ∙ sym (sum_by-cons f segment segments)
+sum_by-put_bytes-more f segment segments at bytes false has ignores rest =
+    sum_by-cons f segment (put_bytes segments at bytes) ∙ ap (λ (n : ℕ). f segment + n) rest ∙ sym (sum_by-cons f segment segments)
+
+sum_by-put_bytes : (f : Segment → ℕ) (segments : List Segment) (at : ℕ) (bytes : List ℕ) → IgnoresBytes f → sum_by f (put_bytes segments at bytes) ≡ sum_by f segments
+sum_by-put_bytes f [] at bytes ignores = refl
+sum_by-put_bytes f (segment ∷ segments) at bytes ignores =
+    sum_by-put_bytes-more f segment segments at bytes (has_bytes segment at (length bytes)) refl ignores (sum_by-put_bytes f segments at bytes ignores)
+
+size_ignores : (kind : SegKind) → IgnoresBytes (size_in kind)
+size_ignores kind segment bytes size = ap (λ (n : ℕ). if nat_eq (kind_number segment.kind) (kind_number kind) then n else 0) size
+
+pub totals_of-put_bytes : (segments : List Segment) (at : ℕ) (bytes : List ℕ) → totals_of (put_bytes segments at bytes) ≡ totals_of segments
+totals_of-put_bytes segments at bytes =
+    let total = λ (kind : SegKind). sum_by-put_bytes (size_in kind) segments at bytes (size_ignores kind) in
+    same_totals (totals_of (put_bytes segments at bytes)) (totals_of segments)
+    (total Image) (total Pool) (total Firmware) (total Stack) (total Table) (sum_by-put_bytes block_in segments at bytes (λ segment b size. refl))
+
+-- ---- how large they get
+
+sum_by-le-more : (a : ℕ) (f : Segment → ℕ) (segment : Segment) (segments : List Segment) → lie_from a (segment ∷ segments) ≡ true → f segment ≤ extent segment → end_of segment + sum_by f segments ≤ 2 ^ 63 → a + sum_by f (segment ∷ segments) ≤ 2 ^ 63
+sum_by-le-more a f segment segments lie small rest =
+    let parts = head_lies a segment segments lie in
+    let split = sum_by-cons f segment segments in
+    omega (arith, parts.0, small, rest, split)
+
+-- segments that lie apart take no more addresses than there are
+sum_by-le : (a : ℕ) (f : Segment → ℕ) (segments : List Segment) → ((segment : Segment) → f segment ≤ extent segment) → lie_from a segments ≡ true → a + sum_by f segments ≤ 2 ^ 63
+sum_by-le a f [] small lie = grind (arith, nat_tests, lie)
+sum_by-le a f (segment ∷ segments) small lie =
+    sum_by-le-more a f segment segments lie (small segment) (sum_by-le (end_of segment) f segments small (head_lies a segment segments lie).1)
+
+size_small : (kind : SegKind) (segment : Segment) → size_in kind segment ≤ extent segment
+size_small kind segment = grind (arith, nat_tests)
+
+block_small : (segment : Segment) → block_in segment ≤ extent segment
+block_small segment = grind (arith, nat_tests)
+
+pub total_bound : (segments : List Segment) (kind : SegKind) → lie_from 0 segments ≡ true → total_of segments kind ≤ 2 ^ 63
+total_bound segments kind lie = omega (arith, sum_by-le 0 (size_in kind) segments (size_small kind) lie)
+
+pub block_bound : (segments : List Segment) → lie_from 0 segments ≡ true → block_count segments ≤ 2 ^ 63
+block_bound segments lie = omega (arith, sum_by-le 0 block_in segments block_small lie)
+
+-- a segment that ends by 2^63 has no more bytes
+pub size_bound : (base : ℕ) (bytes : List ℕ) (kind : SegKind) → not (nat_lt (2 ^ 63) (end_of (record { base = base; bytes = bytes; kind = kind }))) ≡ true → length bytes ≤ 2 ^ 63
+size_bound base bytes kind range = grind (arith, nat_tests, range)
+
+-- ---- what holds of a memory
+
+pub no_overlap : (segments : List Segment) (new : Segment) → not (nat_lt (2 ^ 63) (end_of new)) ≡ true → list_any (λ other. meets new other) segments ≡ false → overlaps segments new ≡ false
+no_overlap segments new range apart = grind (arith, range, apart)
+
+pub in_order-mapped : (segments : List Segment) (totals : Totals) (place : ℕ) (base : ℕ) (bytes : List ℕ) (kind : SegKind) → IsInOrder segments totals → IsFirstFrom base segments place
+    → overlaps segments (record { base = base; bytes = bytes; kind = kind }) ≡ false
+    → IsInOrder (insert segments place (record { base = base; bytes = bytes; kind = kind })) (with_segment totals kind (length bytes))
+in_order-mapped segments totals place base bytes kind is at room =
+    let new : Segment = record { base = base; bytes = bytes; kind = kind } in
+    record {
+      apart = ap (lie_from 0) (mapped_where new segments place at) ∙ lie_from-mapped_apart new segments is.apart room;
+      sums = ap (λ t. with_segment t kind (length bytes)) is.sums ∙ sym (totals_of-insert segments place base bytes kind);
+    }
+
+pub in_order-removed : (segments : List Segment) (totals : Totals) (place base : ℕ) (gone : Segment) → IsInOrder segments totals → IsPlaceOf base segments place → get_or segments place gone ≡ gone
+    → IsInOrder (remove segments place) (without_segment totals gone.kind (length gone.bytes))
+in_order-removed segments totals place base gone is at here = record {
+  apart = ap (lie_from 0) (sym (unmapped_where 0 segments base place gone is.apart at.within (at.here gone))) ∙ lie_from-unmapped 0 segments base is.apart;
+  sums = ap (λ t. without_segment t gone.kind (length gone.bytes)) is.sums ∙ sym (totals_of-remove segments place gone at.within here);
+}
+
+pub in_order-put_bytes : (segments : List Segment) (totals : Totals) (at : ℕ) (bytes : List ℕ) → IsInOrder segments totals → IsInOrder (put_bytes segments at bytes) totals
+in_order-put_bytes segments totals at bytes is = record {
+  apart = lie_from-put_bytes 0 segments at bytes ∙ is.apart;
+  sums = is.sums ∙ sym (totals_of-put_bytes segments at bytes);
+}
+
+pub in_order-answered : (done : Bool) (segments : List Segment) (totals : Totals) (at n value : ℕ) → IsInOrder segments totals → IsInOrder (if done then written segments at n value else segments) totals
+in_order-answered true segments totals at n value is = subst (λ (after : List Segment). IsInOrder after totals) (sym (written-as_bytes segments at n value)) (in_order-put_bytes segments totals at (little_bytes n value) is)
+in_order-answered false segments totals at n value is = is
+
+pub in_order-none : IsInOrder [] (record { image = 0; pool = 0; firmware = 0; stack = 0; table = 0; blocks = 0 })
+in_order-none = record { apart = refl; sums = refl }

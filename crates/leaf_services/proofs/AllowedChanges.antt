@@ -1,0 +1,13 @@
+-- A row ends with a change that is allowed.
+use Rattle.std.proofs.Common.{◌≡◌, ℕ, List, true, Result, Ok, Err, IfOk, sym}
+use Rattle.service_thunks.specs.declared.service.Service.{Service}
+use Rattle.world_model.specs.World.{State}
+use Rattle.service_model.specs.Allowed.{RowsAreAllowed, is_allowed}
+use Rattle.service_model.specs.BootServices.{row}
+use Rattle.service_model.specs.declared.call.Caller.{Caller}
+use Rattle.service_model.specs.declared.plan.Change.{Change}
+use Rattle.service_model.specs.declared.plan.Stop.{Stop}
+
+pub change_is_allowed : (law : RowsAreAllowed) (s : Service) (c : Caller) (a : List ℕ) (w : State) (change : Result Change Stop) → change ≡ (row s).rest c a w → IfOk change (λ change. is_allowed change w ≡ true)
+change_is_allowed law s c a w (Ok change) is = law s c a w change (sym is)
+change_is_allowed law s c a w (Err stop) is = tt

@@ -1,9 +1,0 @@
-use Rattle.std.proofs.Common.{◌+◌, ◌*◌}
-use Rattle.leaf_services.proofs.many.+pairs.Given as goal
-
--- the first function of the two calls the second with one less, and that the first with the same
-abbrev pub decreases-pairs_before : goal.decreases-pairs_before
-decreases-pairs_before l = 2 * l.most
-
-abbrev pub decreases-pair_before : goal.decreases-pair_before
-decreases-pair_before l = 2 * l.less + 1

@@ -1,9 +1,0 @@
-use Rattle.std.proofs.Common.{◌≡◌, ◌-◌}
-use Rattle.std.specs.List.{range_with_len}
-use Rattle.service_model.specs.Many.{each, pair_fits}
-use Rattle.leaf_services.proofs.many.all_fit.Given as goal
-
--- the rest from here is the whole from the start
-abbrev pub invariant-loop-i : goal.invariant-loop-i
-invariant-loop-i l =
-    each (pair_fits l.handle l.list l.w.now) (range_with_len l.i (l.count - l.i)) ≡ each (pair_fits l.handle l.list l.w.now) (range_with_len 0 l.count)

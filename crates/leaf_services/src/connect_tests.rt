@@ -1,0 +1,135 @@
+//! ConnectController and DisconnectController, up to where they enter the driver model. The table of
+//! services has them as not built, so their rows are called here.
+
+use crate::changes::apply;
+use crate::protocol_tests::{BAD, LIST};
+use crate::tests::{PLACE, STACK_END, world_with};
+use fw_types::{Cause, Rows, Status};
+use fw_world::World;
+use guest_memory::GuestMem;
+use service_model::{Change, Reentry, Served, Stop};
+use service_rows::connecting::{connect_controller, disconnect_controller};
+use std::test::Fail;
+
+/// A list of 64 handles, of which the last 63 are a list that ends.
+const ENDLESS: u64 = LIST;
+
+/// A list of two handles.
+const TWO: u64 = LIST + 0x400;
+
+/// A device path that ends, and one that does not.
+const END: u64 = PLACE;
+
+const MORE: u64 = PLACE + 16;
+
+/// The last 8 bytes of the stack.
+const LAST: u64 = STACK_END - 8;
+
+const TRAPPED: Result<(u64, bool, bool), Stop> = Err(Stop::Trap(Cause::Memory));
+
+const INVALID: Result<(u64, bool, bool), Stop> = Err(Stop::Status(Status::INVALID_PARAMETER));
+
+/// A list, a path and the last argument; and how many handles the list has, whether the path is at its end
+/// and whether children are connected too, or why the row stops.
+type Connect = (u64, u64, u8, Result<(u64, bool, bool), Stop>);
+
+const CONNECTS: [Connect; 16] = [
+    // a pointer that can't be read before a list that does not end
+    (ENDLESS, BAD, 0, TRAPPED),
+    (ENDLESS, STACK_END - 3, 0, TRAPPED),
+    (LAST, END, 0, TRAPPED),
+    (LAST, BAD, 0, TRAPPED),
+    (BAD, END, 0, TRAPPED),
+    (BAD, BAD, 0, TRAPPED),
+    // each alone
+    (ENDLESS, 0, 0, INVALID),
+    (ENDLESS, END, 1, INVALID),
+    (TWO, STACK_END - 3, 0, TRAPPED),
+    // no list, no path
+    (0, 0, 0, Ok((0, false, false))),
+    (0, BAD, 0, TRAPPED),
+    (0, END, 1, Ok((0, true, true))),
+    (TWO, MORE, 0x80, Ok((2, false, true))),
+    (TWO, END, 0, Ok((2, true, false))),
+    (TWO + 16, 0, 0, Ok((0, false, false))),
+    (ENDLESS + 8, 0, 0, Ok((63, false, false))),
+];
+
+/// What the row of ConnectController ends with.
+fn connecting(
+    world: &World,
+    list: u64,
+    path: u64,
+    recursive: u8,
+) -> Result<(u64, bool, bool), Stop> {
+    match connect_controller(4, list, path, recursive, world)? {
+        Change::Connect {
+            count,
+            at_end,
+            recursive,
+            ..
+        } => Ok((count, at_end, recursive)),
+        _ => Err(Stop::Status(Status::NOT_FOUND)),
+    }
+}
+
+/// A world with those lists and paths, and 7 in the last 8 bytes of the stack.
+fn prepared(rt: &impl AllocGlobal) -> Result<World, Fail> {
+    let mut world = world_with(rt, 100)?;
+    let mut at = ENDLESS;
+    for i in 0..64u64 {
+        world.write(at, 8, 100 + i)?;
+        at = at.wrapping_add(8);
+    }
+    world.write(TWO, 8, 3)?;
+    world.write(TWO + 8, 8, 5)?;
+    // an end node of 4 bytes, and a hardware node
+    world.write(END, 4, 0x0004_ff7f)?;
+    world.write(MORE, 4, 0x0006_017f)?;
+    world.write(LAST, 8, 7)?;
+    Ok(world)
+}
+
+#[test]
+fn connects(rt: HostRuntime) -> Result<(), Fail> {
+    let world = prepared(&rt)?;
+    for (list, path, recursive, ends) in CONNECTS {
+        assert_eq!(rt;
+            connecting(&world, list, path, recursive),
+            ends,
+            "at {list:x} {path:x}"
+        );
+    }
+    Ok(())
+}
+
+/// The handles are read when the service goes on.
+#[test]
+fn goes_on(rt: HostRuntime) -> Result<(), Fail> {
+    let mut world = prepared(&rt)?;
+    let connect = connect_controller(4, TWO, END, 1, &world)
+        .ok()
+        .ok_or("stopped")?;
+    assert_eq!(rt;
+        apply(connect, &mut world)?,
+        Served::Again(Reentry::Connect {
+            controller: 4,
+            context: Rows::of(vec![in rt.alloc(); 3, 5]?),
+            path: END,
+            at_end: true,
+            recursive: true,
+        })
+    );
+    let disconnect = disconnect_controller(4, 3, 99, &world)
+        .ok()
+        .ok_or("stopped")?;
+    assert_eq!(rt;
+        apply(disconnect, &mut world)?,
+        Served::Again(Reentry::Disconnect {
+            controller: 4,
+            driver: 3,
+            child: 99,
+        })
+    );
+    Ok(())
+}

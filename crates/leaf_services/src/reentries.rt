@@ -1,0 +1,54 @@
+//! Services that enter the driver model again: what they go on with.
+ghost use Rattle.std.specs.Prelude.{◌≡◌, ◌<◌, ◌≤◌, IfOk, OnOk};
+ghost use Rattle.service_model.specs.Connecting.{context_of, handle_at};
+ghost use Rattle.service_model.specs.Changes.{applied};
+
+use fw_types::{OutOfMemory, Rows};
+use fw_world::World;
+use guest_memory::GuestMem;
+use service_model::{CONTEXT_SLOTS, Change, Reentry, Served};
+use service_rows::connecting::slot_at;
+
+/// The handle in a slot of a list.
+fn handle_at(list: u64, i: u64, w: &World) -> u64
+    requires { i < CONTEXT_SLOTS }
+    ensures { result ≡ handle_at list w.now.now i }
+{
+    w.read(slot_at(list, i), 8).unwrap_or(0)
+}
+
+/// The handles of a list, in order.
+fn context_of(list: u64, count: u64, w: &World) -> Result<Rows<u64>, OutOfMemory>
+    requires { count ≤ CONTEXT_SLOTS }
+    ensures { IfOk result (λ handles. handles ≡ context_of list count w.now.now) }
+{
+    let mut handles = Vec::new(w.alloc());
+    for i in 0..count {
+        handles.push(handle_at(list, i, w))?;
+    }
+    Ok(Rows::of(handles))
+}
+
+/// What ConnectController goes on with. Nothing changes.
+pub fn connect(
+    controller: u64,
+    list: u64,
+    count: u64,
+    path: u64,
+    at_end: bool,
+    recursive: bool,
+    w: &mut World,
+) -> Result<Served, OutOfMemory>
+    requires { count ≤ CONTEXT_SLOTS }
+    ensures now { IfOk result (λ served. applied (Change.Connect controller list count path at_end recursive) w.old.now ≡ (served, w.new.now)) }
+    ensures marks { OnOk result (w.new.marks ≡ w.old.marks) }
+{
+    let context = context_of(list, count, w)?;
+    Ok(Served::Again(Reentry::Connect {
+        controller,
+        context,
+        path,
+        at_end,
+        recursive,
+    }))
+}

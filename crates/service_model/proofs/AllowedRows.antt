@@ -1,0 +1,266 @@
+-- What rows end with: changes that can be applied, that leave the task priority level, except for the two
+-- services that set it, and that do not go on.
+use Rattle.std.proofs.Common.{◌≡◌, ◌≤◌, ℕ, ◌*◌, Bool, true, false, ◌&&◌, not, nat_eq, nat_le, List, refl, ap, ◌∙◌, subst, rules, arith}
+use Rattle.std.specs.Prelude.{Option, Some, None, is_some, Ok, if◌then◌else◌}
+use Rattle.std.proofs.lemmas.Bool.{and_from, and_parts, or_right}
+use Rattle.std.proofs.lemmas.Bool.Decides.{nat_tests}
+use Rattle.fw_types.specs.Attr.{is_legal}
+use Rattle.fw_types.specs.declared.attr.TheConstants.Attr.{BY_HANDLE_PROTOCOL, TEST_PROTOCOL}
+use Rattle.fw_types.specs.declared.status.TheConstants.Status.{ACCESS_DENIED, ALREADY_STARTED, NOT_FOUND, SUCCESS, UNSUPPORTED}
+use Rattle.fw_types.specs.declared.event.Cause.TheVariants.{Memory}
+use Rattle.guest_memory.specs.GuestMemory.{is_readable, is_writable_range}
+use Rattle.handle_db.specs.Database.{interface_of, is_live}
+use Rattle.open_records.specs.OpenRecords.{records_of}
+use Rattle.open_records.specs.Verdicts.{judge, may_enter}
+use Rattle.open_records.specs.declared.verdict.Verdict.{Verdict}
+use Rattle.open_records.specs.declared.verdict.Verdict.TheVariants.{Add, Count, Already, Denied, MustDisconnect}
+use Rattle.service_thunks.specs.declared.service.Service.{Service}
+use Rattle.service_thunks.specs.declared.service.Service.TheVariants as service
+use Rattle.world_model.specs.World.{State}
+use Rattle.world_model.specs.Interfaces.{firmware}
+use Rattle.world_model.specs.Records.{is_none_or_live}
+use Rattle.service_model.specs.Words.{dead, installed_interface, legal, null, readable, refuse_if, writable}
+use Rattle.service_model.specs.Rows.{allocate_pool, copy_mem, raise_tpl, restore_tpl, set_mem, unbuilt}
+use Rattle.service_model.specs.Protocols.{close, live_or_zero, how_many, install, locate_handle, locate_handle_buffer, locate_protocol, change_for_found, open_protocol, open_protocol_information, open_by_interface, out_of, out_size, protocols_per_handle, change_for_verdict, open_by_records, handles_in_buffer, uninstall}
+use Rattle.service_model.specs.Many.{first_pair, install_multiple}
+use Rattle.service_model.specs.BootServices.{arg, arg32, arg8, row}
+use Rattle.service_model.specs.Allowed.{RowsAreAllowed, can_store, goes_again, is_allowed, is_of_image}
+use Rattle.service_model.specs.declared.numbers.TheConstants.{TPL_HIGH_LEVEL}
+use Rattle.service_model.specs.Untouched.{sets_tpl}
+use Rattle.service_model.specs.declared.call.Caller.{Caller}
+use Rattle.service_model.specs.declared.plan.Contents.{Contents}
+use Rattle.service_model.specs.declared.plan.Change.{Change}
+use Rattle.service_model.specs.declared.plan.Change.TheVariants.{Block, Free, Open, SetTpl, Store, Value}
+use Rattle.service_model.specs.declared.plan.Stop.TheVariants.{Status, Trap}
+use Rattle.service_model.proofs.PairRows.{fits-of, lives}
+use Rattle.service_model.proofs.RowLines.{Says, is-legal, is-same, is-there, not-refused, not-stopped, says-after, says-end, says-found, says-if, says-stop}
+
+-- whether a change sets the level
+abbrev pub is_of_tpl : Change → Bool
+is_of_tpl (SetTpl tpl answer) = true
+is_of_tpl _ = false
+
+-- a change that can be applied, leaves the level and does not go on
+abbrev Fine : State → Change → Type 0
+Fine w change = (is_allowed change w ≡ true) × (is_of_tpl change ≡ false) × (goes_again change ≡ false)
+
+can-write : (n at : ℕ) (w : State) → writable n at w ≡ Ok tt → is_writable_range w.soft.memory at n ≡ true
+can-write n at w is = not-stopped (is_writable_range w.soft.memory at n) (Trap Memory) is
+
+can-read : (n at : ℕ) (w : State) → readable n at w ≡ Ok tt → is_readable w.soft.memory at n ≡ true
+can-read n at w is = not-stopped (is_readable w.soft.memory at n) (Trap Memory) is
+
+-- ---- installing and uninstalling
+
+install-fine : (owner handle_at guid_at kind interface : ℕ) (w : State) → Says (Fine w) (install owner handle_at guid_at kind interface w)
+install-fine owner handle_at guid_at kind interface w = search (rules, says-after, says-found, says-end, can-write) depth 30
+
+of-image : (handle : ℕ) (name : List ℕ) (found : ℕ × ℕ) (w : State) → installed_interface handle name w ≡ Ok found → refuse_if (nat_eq found.1 firmware) ACCESS_DENIED ≡ Ok tt → is_of_image (interface_of handle name w.soft.database) ≡ true
+of-image handle name found w is other = ap is_of_image (is-there handle name found w is) ∙ ap not (not-refused (nat_eq found.1 firmware) ACCESS_DENIED other)
+
+uninstall-fine : (given guid_at interface : ℕ) (w : State) → Says (Fine w) (uninstall given guid_at interface w)
+uninstall-fine given guid_at interface w = search (rules, says-after, says-found, says-end, of-image) depth 30
+
+-- ---- opening and closing
+
+-- a handle is live, unless it counts as 0
+live_or_zero-live : (handle : ℕ) (w : State) → null (live_or_zero handle w) ≡ false → is_live (live_or_zero handle w) w.soft.database ≡ true
+live_or_zero-live handle w some = by_test (dead handle w) refl some
+  where
+    by_test : (gone : Bool) → dead handle w ≡ gone → null (if gone then 0 else handle) ≡ false → is_live (if gone then 0 else handle) w.soft.database ≡ true
+    by_test true is some = absurd cc
+    by_test false is some = lives handle w is
+
+live_or_zero-none : (handle : ℕ) (w : State) → is_none_or_live (live_or_zero handle w) w.soft.database ≡ true
+live_or_zero-none handle w = by_test (dead handle w) refl
+  where
+    by_test : (gone : Bool) → dead handle w ≡ gone → is_none_or_live (if gone then 0 else handle) w.soft.database ≡ true
+    by_test true is = refl
+    by_test false is = or_right (nat_eq handle 0) (is_live handle w.soft.database) (lives handle w is)
+
+-- what an open ends with if its interface is there
+record Opens (handle : ℕ) (name : List ℕ) (out agent controller attr : ℕ) (w : State) : Type 0 where
+  there : is_some (interface_of handle name w.soft.database) ≡ true
+  can : can_store (out_of attr out) w ≡ true
+  for_live : is_none_or_live controller w.soft.database ≡ true
+  legal : is_legal attr ≡ true
+
+six : (a b c d e f : Bool) → a ≡ true → b ≡ true → c ≡ true → d ≡ true → e ≡ true → f ≡ true → (a && (b && (c && (d && (e && f))))) ≡ true
+six a b c d e f p q r s t u = rw (p, q, r, s, t, u) refl
+
+enters : (handle : ℕ) (name : List ℕ) (out agent controller attr : ℕ) (w : State) → Opens handle name out agent controller attr w → is_live agent w.soft.database ≡ true
+    → may_enter (judge (records_of w.soft.records.entries handle name) agent controller attr) ≡ true → (interface : ℕ)
+    → Says (Fine w) (Ok (Open handle name agent controller attr (out_of attr out) interface))
+enters handle name out agent controller attr w opens by_live free interface =
+    says-end (Fine w) (Open handle name agent controller attr (out_of attr out) interface) (
+      six (can_store (out_of attr out) w) (is_some (interface_of handle name w.soft.database)) (is_live agent w.soft.database) (is_none_or_live controller w.soft.database) (is_legal attr)
+          (may_enter (judge (records_of w.soft.records.entries handle name) agent controller attr))
+          opens.can opens.there by_live opens.for_live opens.legal free,
+      refl,
+      refl,
+    )
+
+verdict-fine : (verdict : Verdict) (handle : ℕ) (name : List ℕ) (out agent controller attr interface : ℕ) (w : State) → judge (records_of w.soft.records.entries handle name) agent controller attr ≡ verdict
+    → Opens handle name out agent controller attr w → is_live agent w.soft.database ≡ true → Says (Fine w) (change_for_verdict verdict handle name out agent controller attr interface)
+verdict-fine Add handle name out agent controller attr interface w is opens by_live = enters handle name out agent controller attr w opens by_live (ap may_enter is) interface
+verdict-fine Count handle name out agent controller attr interface w is opens by_live = enters handle name out agent controller attr w opens by_live (ap may_enter is) interface
+verdict-fine Already handle name out agent controller attr interface w is opens by_live = says-end (Fine w) (Store (out_of attr out) interface ALREADY_STARTED) (opens.can, refl, refl)
+verdict-fine Denied handle name out agent controller attr interface w is opens by_live = says-stop (Fine w) (Status ACCESS_DENIED)
+verdict-fine (MustDisconnect holder) handle name out agent controller attr interface w is opens by_live = says-stop (Fine w) (Status ACCESS_DENIED)
+
+records-fine : (handle : ℕ) (name : List ℕ) (out agent controller attr interface : ℕ) (w : State) → Opens handle name out agent controller attr w → (null agent ≡ false → is_live agent w.soft.database ≡ true)
+    → Says (Fine w) (open_by_records handle name out agent controller attr interface w)
+records-fine handle name out agent controller attr interface w opens by_live =
+    says-if (Fine w) (null agent) _ _
+    (λ none. says-end (Fine w) (Store (out_of attr out) interface SUCCESS) (opens.can, refl, refl))
+    (λ some. verdict-fine (judge (records_of w.soft.records.entries handle name) agent controller attr) handle name out agent controller attr interface w refl opens (by_live some))
+
+interface-fine : (found : Option (ℕ × ℕ)) (handle : ℕ) (name : List ℕ) (out agent controller attr : ℕ) (w : State) → interface_of handle name w.soft.database ≡ found
+    → can_store (out_of attr out) w ≡ true → is_legal attr ≡ true → Says (Fine w) (open_by_interface found handle name out agent controller attr w)
+interface-fine None handle name out agent controller attr w is can legal = says-end (Fine w) (Store (out_of attr out) 0 UNSUPPORTED) (can, refl, refl)
+interface-fine (Some found) handle name out agent controller attr w is can legal =
+    records-fine handle name out (live_or_zero agent w) (live_or_zero controller w) attr found.0 w
+    (record { there = ap is_some is; can = can; for_live = live_or_zero-none controller w; legal = legal })
+    (live_or_zero-live agent w)
+
+-- the place of the interface can be written
+out-writable : (bits attr out : ℕ) (w : State) → legal bits ≡ Ok attr → writable (out_size bits) out w ≡ Ok tt → can_store (out_of attr out) w ≡ true
+out-writable bits attr out w is can = by_test (nat_eq attr TEST_PROTOCOL) (subst (λ size. is_writable_range w.soft.memory out (out_size size) ≡ true) (is-same bits attr is) (can-write (out_size bits) out w can))
+  where
+    by_test : (test : Bool) → is_writable_range w.soft.memory out (if test then 0 else 8) ≡ true → can_store (if test then None else Some out) w ≡ true
+    by_test true can = refl
+    by_test false can = can
+
+open-fine : (given guid_at out agent controller bits : ℕ) (w : State) → Says (Fine w) (open_protocol given guid_at out agent controller bits w)
+open-fine given guid_at out agent controller bits w = search (rules, says-after, says-found, interface-fine, out-writable, is-legal) depth 30
+
+close-fine : (given guid_at agent controller : ℕ) (w : State) → Says (Fine w) (close given guid_at agent controller w)
+close-fine given guid_at agent controller w = search (rules, says-after, says-found, says-end) depth 30
+
+-- ---- what is there
+
+block-fine : (what : Contents) (buffer count : ℕ) (first : Bool) (w : State) → writable 8 buffer w ≡ Ok tt → writable 8 count w ≡ Ok tt → Says (Fine w) (Ok (Block what buffer count first))
+block-fine what buffer count first w one two =
+    says-end (Fine w) (Block what buffer count first)
+    (and_from (is_writable_range w.soft.memory buffer 8) (is_writable_range w.soft.memory count 8) (can-write 8 buffer w one) (can-write 8 count w two), refl, refl)
+
+information-fine : (given guid_at buffer count : ℕ) (w : State) → Says (Fine w) (open_protocol_information given guid_at buffer count w)
+information-fine given guid_at buffer count w = search (rules, says-after, says-found, block-fine) depth 30
+
+protocols-fine : (given buffer count : ℕ) (w : State) → Says (Fine w) (protocols_per_handle given buffer count w)
+protocols-fine given buffer count w = search (rules, says-after, says-found, block-fine) depth 30
+
+-- ---- which handles have a protocol
+
+buffer-fine : (given : ℕ) (name : Option (List ℕ)) (size buffer : ℕ) (w : State) → is_writable_range w.soft.memory size 8 ≡ true → Says (Fine w) (handles_in_buffer given name size buffer (8 * how_many name w) w)
+buffer-fine given name size buffer w can = search (rules, says-after, says-if, says-end, and_from, can-write) depth 30
+
+locate-fine : (kind guid_at size buffer : ℕ) (w : State) → Says (Fine w) (locate_handle kind guid_at size buffer w)
+locate-fine kind guid_at size buffer w = search (rules, says-after, says-found, buffer-fine, can-write) depth 30
+
+locate_buffer-fine : (kind guid_at count buffer : ℕ) (w : State) → Says (Fine w) (locate_handle_buffer kind guid_at count buffer w)
+locate_buffer-fine kind guid_at count buffer w = search (rules, says-after, says-found, block-fine) depth 30
+
+found-fine : (found : Option (ℕ × ℕ)) (out : ℕ) (w : State) → is_writable_range w.soft.memory out 8 ≡ true → Says (Fine w) (change_for_found found out)
+found-fine None out w can = says-end (Fine w) (Store (Some out) 0 NOT_FOUND) (can, refl, refl)
+found-fine (Some found) out w can = says-end (Fine w) (Store (Some out) found.0 SUCCESS) (can, refl, refl)
+
+locate_protocol-fine : (guid_at out : ℕ) (w : State) → Says (Fine w) (locate_protocol guid_at out w)
+locate_protocol-fine guid_at out w = search (rules, says-after, says-found, found-fine, can-write) depth 30
+
+-- ---- many interfaces
+
+many-fine : (owner handle_at list : ℕ) (w : State) → Says (Fine w) (install_multiple owner handle_at list w)
+many-fine owner handle_at list w = search (rules, says-after, says-found, says-end, and_from, fits-of, can-write) depth 30
+
+-- ---- the services on memory
+
+allocate-fine : (size out : ℕ) (w : State) → Says (Fine w) (allocate_pool size out w)
+allocate-fine size out w = search (rules, says-after, says-end, can-write)
+
+copy-fine : (to from n : ℕ) (w : State) → Says (Fine w) (copy_mem to from n w)
+copy-fine to from n w = search (rules, says-after, says-end, and_from, can-read, can-write) depth 30
+
+set-fine : (to n byte : ℕ) (w : State) → Says (Fine w) (set_mem to n byte w)
+set-fine to n byte w = search (rules, says-after, says-end, can-write)
+
+-- ---- all rows
+
+unbuilt-fine : (w : State) → Says (Fine w) (unbuilt w)
+unbuilt-fine w = says-stop (Fine w) (Status UNSUPPORTED)
+
+rows-fine : (s : Service) (c : Caller) (a : List ℕ) (w : State) → sets_tpl s ≡ false → Says (Fine w) ((row s).rest c a w)
+rows-fine service.RaiseTpl c a w none = absurd cc
+rows-fine service.RestoreTpl c a w none = absurd cc
+rows-fine service.AllocatePool c a w none = allocate-fine (arg a 1) (arg a 2) w
+rows-fine service.FreePool c a w none = says-end (Fine w) (Free (arg a 0)) (refl, refl, refl)
+rows-fine service.Install c a w none = install-fine c.image (arg a 0) (arg a 1) (arg32 a 2) (arg a 3) w
+rows-fine service.Uninstall c a w none = uninstall-fine (arg a 0) (arg a 1) (arg a 2) w
+rows-fine service.HandleProtocol c a w none = open-fine (arg a 0) (arg a 1) (arg a 2) firmware 0 BY_HANDLE_PROTOCOL w
+rows-fine service.LocateHandle c a w none = locate-fine (arg32 a 0) (arg a 1) (arg a 3) (arg a 4) w
+rows-fine service.OpenProtocol c a w none = open-fine (arg a 0) (arg a 1) (arg a 2) (arg a 3) (arg a 4) (arg32 a 5) w
+rows-fine service.CloseProtocol c a w none = close-fine (arg a 0) (arg a 1) (arg a 2) (arg a 3) w
+rows-fine service.OpenProtocolInformation c a w none = information-fine (arg a 0) (arg a 1) (arg a 2) (arg a 3) w
+rows-fine service.ProtocolsPerHandle c a w none = protocols-fine (arg a 0) (arg a 1) (arg a 2) w
+rows-fine service.LocateHandleBuffer c a w none = locate_buffer-fine (arg32 a 0) (arg a 1) (arg a 3) (arg a 4) w
+rows-fine service.LocateProtocol c a w none = locate_protocol-fine (arg a 0) (arg a 2) w
+rows-fine service.InstallMultiple c a w none = many-fine c.image (arg a 0) (first_pair c.sp) w
+rows-fine service.Stall c a w none = says-end (Fine w) (Value 0) (refl, refl, refl)
+rows-fine service.CopyMem c a w none = copy-fine (arg a 0) (arg a 1) (arg a 2) w
+rows-fine service.SetMem c a w none = set-fine (arg a 0) (arg a 1) (arg8 a 2) w
+rows-fine service.ConnectController c a w none = unbuilt-fine w
+rows-fine service.DisconnectController c a w none = unbuilt-fine w
+rows-fine service.UninstallMultiple c a w none = unbuilt-fine w
+rows-fine service.MemRead c a w none = unbuilt-fine w
+rows-fine service.MemWrite c a w none = unbuilt-fine w
+rows-fine service.PciRead c a w none = unbuilt-fine w
+rows-fine service.PciWrite c a w none = unbuilt-fine w
+rows-fine service.GetLocation c a w none = unbuilt-fine w
+rows-fine service.Attributes c a w none = unbuilt-fine w
+rows-fine service.Unbuilt c a w none = unbuilt-fine w
+
+pub rows-leave : (s : Service) (c : Caller) (a : List ℕ) (w : State) → sets_tpl s ≡ false → Says (λ change. is_of_tpl change ≡ false) ((row s).rest c a w)
+rows-leave s c a w none change result = (rows-fine s c a w none change result).1
+
+-- the two that set the level answer a level
+abbrev pub IsLevel : Change → Type 0
+IsLevel (SetTpl tpl answer) = answer ≤ TPL_HIGH_LEVEL
+IsLevel _ = Unit {0}
+
+abbrev OfTpl : State → Change → Type 0
+OfTpl w change = (is_allowed change w ≡ true) × IsLevel change × (goes_again change ≡ false)
+
+raise-fine : (new : ℕ) (w : State) → Says (OfTpl w) (raise_tpl new w)
+raise-fine new w =
+    says-if (OfTpl w) (nat_le w.soft.tpl new && nat_le new TPL_HIGH_LEVEL) _ _
+    (λ can.
+    let both = and_parts (nat_le w.soft.tpl new) (nat_le new TPL_HIGH_LEVEL) can in
+    let low : w.soft.tpl ≤ new = grind (arith, nat_tests, both.0) in
+    let high : new ≤ TPL_HIGH_LEVEL = grind (arith, nat_tests, both.1) in
+    says-end (OfTpl w) (SetTpl new w.soft.tpl) (refl, omega arith, refl))
+    (λ stays. says-end (OfTpl w) (Value w.soft.tpl) (refl, tt, refl))
+
+restore-fine : (old : ℕ) (w : State) → Says (OfTpl w) (restore_tpl old w)
+restore-fine old w =
+    says-if (OfTpl w) (nat_le old w.soft.tpl) _ _
+    (λ can. says-end (OfTpl w) (SetTpl old SUCCESS.0) (refl, omega arith, refl))
+    (λ stays. says-end (OfTpl w) (Value SUCCESS.0) (refl, tt, refl))
+
+pub rows-allowed : RowsAreAllowed
+rows-allowed service.RaiseTpl c a w change result = (raise-fine (arg a 0) w change result).0
+rows-allowed service.RestoreTpl c a w change result = (restore-fine (arg a 0) w change result).0
+rows-allowed s c a w change result = (rows-fine s c a w refl change result).0
+
+level-of : (change : Change) → is_of_tpl change ≡ false → IsLevel change
+level-of (SetTpl tpl answer) other = absurd cc
+level-of change other = tt
+
+pub rows-level : (s : Service) (c : Caller) (a : List ℕ) (w : State) → Says IsLevel ((row s).rest c a w)
+rows-level service.RaiseTpl c a w change result = (raise-fine (arg a 0) w change result).1
+rows-level service.RestoreTpl c a w change result = (restore-fine (arg a 0) w change result).1
+rows-level s c a w change result = level-of change (rows-fine s c a w refl change result).1
+
+pub rows-end : (s : Service) (c : Caller) (a : List ℕ) (w : State) → Says (λ change. goes_again change ≡ false) ((row s).rest c a w)
+rows-end service.RaiseTpl c a w change result = (raise-fine (arg a 0) w change result).2
+rows-end service.RestoreTpl c a w change result = (restore-fine (arg a 0) w change result).2
+rows-end s c a w change result = (rows-fine s c a w refl change result).2

@@ -1,0 +1,211 @@
+-- What services leave whatever the state is: the task priority level, the events, and all units except those
+-- that are spent.
+use Rattle.std.proofs.Common.{◌≡◌, ◌≤◌, ℕ, zero, suc, ◌-◌, ◌*◌, Bool, true, false, not, ◌&&◌, List, length, replicate, refl, ap, ◌∙◌, arith}
+use Rattle.std.specs.Prelude.{Option, Some, None, Result, Ok, Err, if◌then◌else◌}
+use Rattle.guest_memory.specs.declared.segment.Segment.{Segment}
+use Rattle.guest_memory.specs.declared.segment.SegKind.TheVariants.{Pool}
+use Rattle.guest_memory.specs.GuestMemory.{begins, bytes_of, put_bytes}
+use Rattle.byteorder.specs.Endian.{little_bytes}
+use Rattle.handle_db.specs.Database.{handles_with}
+use Rattle.handle_db.specs.declared.handle_entry.Interface.{Interface}
+use Rattle.handle_db.specs.declared.refusal.DbRefusal.{DbRefusal}
+use Rattle.open_records.specs.Adding.{is_full}
+use Rattle.world_model.specs.World.{Hard, State, on_soft, with_memory}
+use Rattle.world_model.specs.Blocks.{block_added, block_freed, is_block_full, is_image_block}
+use Rattle.world_model.specs.Interfaces.{install_answer, interface, interface_added, interface_removed, uninstall_answer}
+use Rattle.world_model.specs.Records.{record_entered, records_left}
+use Rattle.world_model.specs.declared.fault.WorldFault.TheVariants as fault
+use Rattle.service_model.specs.BootServices.{end_of_row, row}
+use Rattle.service_model.specs.Changes.{allot_served, applied, block_made, block_served, both_stored, bytes_stored, free_served, install_served, many_served, new_handle_stored, number_stored, open_served, pair_added, pair_at, pair_installed, pairs_installed, stored_if, uninstall_served}
+use Rattle.service_model.specs.Words.{◌>>=◌}
+use Rattle.service_model.specs.Contents.{contents_bytes, contents_count, number_bytes}
+use Rattle.service_model.specs.Untouched.{EventsStay, TplStays, UnitsNeverRise}
+use Rattle.service_model.specs.declared.plan.Change.{Change}
+use Rattle.service_model.specs.declared.plan.Change.TheVariants.{Allot, Block, Close, Connect, Copy, Disconnect, Fill, Free, Handles, Install, InstallMany, Open, SetTpl, Store, Uninstall, Value}
+use Rattle.service_model.specs.declared.plan.Stop.{Stop}
+use Rattle.service_model.specs.declared.plan.Stop.TheVariants as stop
+use Rattle.service_model.proofs.RowLines.{Says}
+use Rattle.service_model.proofs.AllowedRows.{is_of_tpl, rows-leave}
+use Rattle.service_model.proofs.ServiceCases.{paid, served-by}
+
+-- a part of the state that no change touches, except one of the task priority level
+record IsLeft {A : Type 0} (part : State → A) : Type 0 where
+  memory : (segments : List Segment) (w : State) → part (on_soft (with_memory segments) w) ≡ part w
+  block : (bytes : List ℕ) (w : State) → part (on_soft (block_added bytes Pool) w) ≡ part w
+  unblock : (at : ℕ) (w : State) → part (on_soft (block_freed at) w) ≡ part w
+  install : (handle : Option ℕ) (new : Interface) (w : State) → part (on_soft (interface_added handle new) w) ≡ part w
+  uninstall : (handle : ℕ) (name : List ℕ) (w : State) → part (on_soft (interface_removed handle name) w) ≡ part w
+  enter : (handle : ℕ) (name : List ℕ) (agent controller attr : ℕ) (w : State) → part (on_soft (record_entered handle name agent controller attr) w) ≡ part w
+  leave : (handle : ℕ) (name : List ℕ) (agent controller : ℕ) (w : State) → part (on_soft (records_left handle name agent controller) w) ≡ part w
+
+-- what pairs leave of a part, if none is refused
+abbrev LeftBy : {A : Type 0} → (State → A) → State → Result (Option ℕ × State) Stop → Type 0
+LeftBy part w (Ok end) = part end.1 ≡ part w
+LeftBy part w (Err stopped) = Unit {0}
+
+module _ {A : Type 0} (part : State → A) (left : IsLeft part) where
+  number-left : (at value : ℕ) (w : State) → part (number_stored at value w) ≡ part w
+  number-left at value w = left.memory (put_bytes w.soft.memory at (little_bytes 8 value)) w
+
+  allot-ends : (out : ℕ) (bytes : List ℕ) (w : State) (full : Bool) → part (allot_served out (block_made (if full then Err fault.Full else Ok w.soft.next_block) bytes w)).1 ≡ part w
+  allot-ends out bytes w true = refl
+  allot-ends out bytes w false = number-left out w.soft.next_block (on_soft (block_added bytes Pool) w) ∙ left.block bytes w
+
+  free-ends : (at : ℕ) (w : State) (there : Bool) → part (free_served (if there then Ok tt else Err fault.NotThere) at w).1 ≡ part w
+  free-ends at w true = left.unblock at w
+  free-ends at w false = refl
+
+  store_if-left : (out : Option ℕ) (value : ℕ) (w : State) → part (stored_if out value w) ≡ part w
+  store_if-left None value w = refl
+  store_if-left (Some at) value w = number-left at value w
+
+  handle-left : (handle : Option ℕ) (out new : ℕ) (w : State) → part (new_handle_stored handle out new w) ≡ part w
+  handle-left None out new w = number-left out new w
+  handle-left (Some handle) out new w = refl
+
+  install-ends : (answer : Result ℕ DbRefusal) (handle : Option ℕ) (name : List ℕ) (address owner out : ℕ) (w : State) → part (install_served answer handle name address owner out w).1 ≡ part w
+  install-ends (Ok new) handle name address owner out w = handle-left handle out new (on_soft (interface_added handle (interface name address owner)) w) ∙ left.install handle (interface name address owner) w
+  install-ends (Err refusal) handle name address owner out w = refl
+
+  added-left : (answer : Result ℕ DbRefusal) (handle : Option ℕ) (pair : List ℕ × ℕ) (owner : ℕ) (w : State) → LeftBy part w (pair_added answer handle pair owner w)
+  added-left (Ok new) handle pair owner w = left.install handle (interface pair.0 pair.1 owner) w
+  added-left (Err refusal) handle pair owner w = tt
+
+  pair-left : (pair : Result (List ℕ × ℕ) Stop) (owner : ℕ) (handle : Option ℕ) (w : State) → LeftBy part w (pair >>= λ pair. pair_added (install_answer handle pair.0 w.soft) handle pair owner w)
+  pair-left (Ok pair) owner handle w = added-left (install_answer handle pair.0 w.soft) handle pair owner w
+  pair-left (Err stopped) owner handle w = tt
+
+  left-since : (before w : State) (result : Result (Option ℕ × State) Stop) → part w ≡ part before → LeftBy part w result → LeftBy part before result
+  left-since before w (Ok end) same since = since ∙ same
+  left-since before w (Err stopped) same since = tt
+
+  next-left : (i list owner : ℕ) (before : State) (result : Result (Option ℕ × State) Stop) → LeftBy part before result → LeftBy part before (result >>= pair_installed i list owner)
+  next-left i list owner before (Ok (handle, mid)) same = left-since before mid (pair_installed i list owner (handle, mid)) same (pair-left (pair_at list i mid) owner handle mid)
+  next-left i list owner before (Err stopped) same = tt
+
+  pairs-left : (count list owner : ℕ) (handle : Option ℕ) (w : State) → LeftBy part w (pairs_installed count list owner handle w)
+  pairs-left zero list owner handle w = refl
+  pairs-left (suc count) list owner handle w = next-left count list owner w (pairs_installed count list owner handle w) (pairs-left count list owner handle w)
+
+  many-ends : (handle : Option ℕ) (out : ℕ) (w : State) (result : Result (Option ℕ × State) Stop) → LeftBy part w result → part (many_served handle out w result).1 ≡ part w
+  many-ends handle out w (Ok (None, mid)) same = same
+  many-ends handle out w (Ok (Some new, mid)) same = handle-left handle out new mid ∙ same
+  many-ends handle out w (Err (stop.Status status)) same = refl
+  many-ends handle out w (Err (stop.Trap cause)) same = refl
+
+  uninstall-ends : (answer : Result Unit DbRefusal) (handle : ℕ) (name : List ℕ) (w : State) → part (uninstall_served answer handle name w).1 ≡ part w
+  uninstall-ends (Ok done) handle name w = left.uninstall handle name w
+  uninstall-ends (Err refusal) handle name w = refl
+
+  open-ends : (full : Bool) (handle : ℕ) (name : List ℕ) (agent controller attr : ℕ) (out : Option ℕ) (address : ℕ) (w : State) → part (open_served full handle name agent controller attr out address w).1 ≡ part w
+  open-ends true handle name agent controller attr out address w = refl
+  open-ends false handle name agent controller attr out address w = store_if-left out address (on_soft (record_entered handle name agent controller attr) w) ∙ left.enter handle name agent controller attr w
+
+  both-left : (count_first : Bool) (buffer at count n : ℕ) (w : State) → part (both_stored count_first buffer at count n w) ≡ part w
+  both-left true buffer at count n w = number-left buffer at (number_stored count n w) ∙ number-left count n w
+  both-left false buffer at count n w = number-left count n (number_stored buffer at w) ∙ number-left buffer at w
+
+  block-ends : (count_first : Bool) (buffer count n : ℕ) (bytes : List ℕ) (w : State) (full : Bool) → part (block_served count_first buffer count n (block_made (if full then Err fault.Full else Ok w.soft.next_block) bytes w)).1 ≡ part w
+  block-ends count_first buffer count n bytes w true = refl
+  block-ends count_first buffer count n bytes w false = both-left count_first buffer w.soft.next_block count n (on_soft (block_added bytes Pool) w) ∙ left.block bytes w
+
+  handles-left : (first second : ℕ) (value : ℕ) (bytes : List ℕ) (w : State) → part (bytes_stored second bytes (number_stored first value w)) ≡ part w
+  handles-left first second value bytes w =
+      left.memory (put_bytes (number_stored first value w).soft.memory second bytes) (number_stored first value w) ∙ number-left first value w
+
+  change-ends : (change : Change) (w : State) → is_of_tpl change ≡ false → part (applied change w).1 ≡ part w
+  change-ends (Value value) w other = refl
+  change-ends (SetTpl tpl answer) w other = absurd cc
+  change-ends (Allot size out) w other = allot-ends out (replicate size 0) w (is_block_full (length (replicate size 0)) w.soft)
+  change-ends (Free at) w other = free-ends at w (begins Pool at w.soft.memory && not (is_image_block at w.soft.images))
+  change-ends (Copy to from n) w other = left.memory (put_bytes w.soft.memory to (bytes_of w.soft.memory from n)) w
+  change-ends (Fill to n byte) w other = left.memory (put_bytes w.soft.memory to (replicate n byte)) w
+  change-ends (Store out value status) w other = store_if-left out value w
+  change-ends (Install handle name address owner out) w other = install-ends (install_answer handle name w.soft) handle name address owner out w
+  change-ends (InstallMany handle list count owner out) w other =
+      many-ends handle out w (pairs_installed count list owner handle w) (pairs-left count list owner handle w)
+  change-ends (Uninstall handle name) w other = uninstall-ends (uninstall_answer handle name w.soft) handle name w
+  change-ends (Open handle name agent controller attr out address) w other =
+      open-ends (is_full handle name agent controller attr w.soft.records) handle name agent controller attr out address w
+  change-ends (Close handle name agent controller) w other = left.leave handle name agent controller w
+  change-ends (Handles name size buffer) w other = handles-left size buffer (8 * length (handles_with name w.soft.database)) (number_bytes (handles_with name w.soft.database)) w
+  change-ends (Block contents buffer count count_first) w other =
+      block-ends count_first buffer count (contents_count contents w) (contents_bytes contents w) w (is_block_full (length (contents_bytes contents w)) w.soft)
+  change-ends (Connect controller list count path at_end recursive) w other = refl
+  change-ends (Disconnect controller driver child) w other = refl
+
+-- ---- the task priority level
+
+abbrev level : State → ℕ
+level w = w.soft.tpl
+
+level-left : IsLeft level
+level-left = record {
+  memory = λ segments w. refl;
+  block = λ bytes w. refl;
+  unblock = λ at w. refl;
+  install = λ handle new w. refl;
+  uninstall = λ handle name w. refl;
+  enter = λ handle name agent controller attr w. refl;
+  leave = λ handle name agent controller w. refl;
+}
+
+end-level : (result : Result Change Stop) (w : State) → Says (λ change. is_of_tpl change ≡ false) result → level (end_of_row w result).1 ≡ level w
+end-level (Ok change) w others = change-ends level level-left change w (others change refl)
+end-level (Err (stop.Status status)) w others = refl
+end-level (Err (stop.Trap cause)) w others = refl
+
+pub tpl-stays : TplStays
+tpl-stays s c w none =
+    served-by (λ end. level end.1 ≡ level w) s c w
+    refl
+    refl
+    (λ price. refl)
+    (λ price a. end-level ((row s).rest c a (paid price w)) (paid price w) (rows-leave s c a (paid price w) none))
+
+-- ---- the hard part
+
+abbrev hard_part : State → Hard
+hard_part w = w.hard
+
+hard-left : IsLeft hard_part
+hard-left = record {
+  memory = λ segments w. refl;
+  block = λ bytes w. refl;
+  unblock = λ at w. refl;
+  install = λ handle new w. refl;
+  uninstall = λ handle name w. refl;
+  enter = λ handle name agent controller attr w. refl;
+  leave = λ handle name agent controller w. refl;
+}
+
+-- every change leaves it
+change-hard : (change : Change) (w : State) → hard_part (applied change w).1 ≡ hard_part w
+change-hard (SetTpl tpl answer) w = refl
+change-hard change w = change-ends hard_part hard-left change w refl
+
+end-hard : (result : Result Change Stop) (w : State) → (end_of_row w result).1.hard ≡ w.hard
+end-hard (Ok change) w = change-hard change w
+end-hard (Err (stop.Status status)) w = refl
+end-hard (Err (stop.Trap cause)) w = refl
+
+pub events-stay : EventsStay
+events-stay s c w =
+    served-by (λ end. end.1.hard.events ≡ w.hard.events) s c w
+    refl
+    refl
+    (λ price. refl)
+    (λ price a. ap (λ (hard : Hard). hard.events) (end-hard ((row s).rest c a (paid price w)) (paid price w)))
+
+end-units : (price : ℕ) (result : Result Change Stop) (w : State) → (end_of_row (paid price w) result).1.hard.units ≤ w.hard.units
+end-units price result w =
+    let same : (end_of_row (paid price w) result).1.hard.units ≡ w.hard.units - price = ap (λ (hard : Hard). hard.units) (end-hard result (paid price w)) in
+    omega arith
+
+pub units-never-rise : UnitsNeverRise
+units-never-rise s c w =
+    served-by (λ end. end.1.hard.units ≤ w.hard.units) s c w
+    (omega arith)
+    (omega arith)
+    (λ price. omega arith)
+    (λ price a. end-units price ((row s).rest c a (paid price w)) w)

@@ -1,0 +1,4 @@
+pub mod CountingDown
+pub mod Ranges
+pub mod RangeLines
+pub mod HandleList

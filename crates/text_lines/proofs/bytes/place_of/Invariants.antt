@@ -1,0 +1,6 @@
+use Rattle.std.proofs.Common.{◌≡◌, ℕ, ◌<◌, eqb, false, get_or}
+use Rattle.text_lines.proofs.bytes.place_of.Given as goal
+
+-- the byte is not before i
+abbrev pub invariant-loop-i : goal.invariant-loop-i
+invariant-loop-i l = (k : ℕ) → k < l.i → eqb (get_or l.text k 0) l.byte ≡ false
