@@ -1,3 +1,1 @@
-pub mod Keeps
 pub mod Numbers
-pub mod Order

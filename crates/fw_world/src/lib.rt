@@ -9,16 +9,7 @@
 #![tactic(auto)]
 
 mod cap;
-mod database;
-mod image_block;
-mod mapping;
 mod mark;
-mod opens;
-mod plain_part;
-mod soft_part;
-mod stack;
-mod tables;
-mod thunks;
 mod world;
 
 pub use cap::Cap;

@@ -19,16 +19,16 @@ ghost use Rattle.world_model.specs.Events.{command_begun, event_begun, event_end
 ghost use Rattle.world_model.specs.Marks.{committed, depth, marked_stacks, marked, rolled_back, stacks};
 ghost use Rattle.world_model.specs.Kept.{IsKept};
 ghost use Rattle.world_model.specs.Opening.{opening};
-ghost use Rattle.fw_world.specs.Answers.{AsBefore, AsBeforeFull, AsBeforeRefusal};
+ghost use Rattle.soft_part.specs.Answers.{AsBefore, AsBeforeFull, AsBeforeRefusal};
 
 use crate::cap::Cap;
 use crate::mark::Mark;
-use crate::soft_part::SoftPart;
 use ebc_machine::Cpu;
 use fw_types::{Attr, Event, EventKind, Guid, Handle, OutOfMemory, Outcome, Status};
 use guest_memory::{GuestMem, MemRefusal, SegKind};
 use handle_db::{Db, DbRefusal};
 use open_records::{RecFault, Records};
+use soft_part::SoftPart;
 use std::alloc::Global;
 use std::marker::Model;
 use world_model::WorldFault;

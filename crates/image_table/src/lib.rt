@@ -1,10 +1,11 @@
 //! The images that the firmware loads: their places in the world.
 //!
 //! `place` checks a file, pays for laying it, and adds its image to the world (UEFI 2.8, 7.4:
-//! LoadImage); its entry point is not called here. `owner_of` says whose code is at an address.
+//! LoadImage); its entry point is not called here. `pay` and `lay_image` are its two parts, for a
+//! caller that has something to do between them. `owner_of` says whose code is at an address.
 //!
 //! - `fault`: why a file was not placed.
-//! - `placing`: `place`.
+//! - `placing`: `place`, `pay` and `lay_image`.
 //! - `owner`: `owner_of`.
 #![tactic(auto)]
 
@@ -14,7 +15,7 @@ mod placing;
 
 pub use fault::PlaceFault;
 pub use owner::owner_of;
-pub use placing::place;
+pub use placing::{lay_image, pay, place};
 
 #[cfg(test)]
 mod tests;

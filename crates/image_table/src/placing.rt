@@ -1,10 +1,12 @@
-ghost use Rattle.std.specs.Prelude.{◌≡◌, ◌+◌, None, Some, IfOk};
-ghost use Rattle.pe_image.specs.ImageRules.{entry_of as entry_place};
-ghost use Rattle.world_model.specs.Images.{entry_of};
-ghost use Rattle.image_table.specs.Placing.{Gives, UnlessMemory, added_unless_full, adding_answer, laying_price, place_answer, placed, placed_unless, unless_refused};
+ghost use Rattle.std.specs.Prelude.{◌≡◌, ◌+◌, false, nat_le, None, Some, IfOk, OnOk, if◌then◌else◌};
+ghost use Rattle.pe_image.specs.ImageRules.{entry_of as entry_place, size_of};
+ghost use Rattle.world_model.specs.World.{on_hard, on_soft};
+ghost use Rattle.world_model.specs.Units.{units_spent};
+ghost use Rattle.world_model.specs.Images.{entry_of, is_image_full};
+ghost use Rattle.image_table.specs.Placing.{Gives, UnlessMemory, file_added, laying_price, place_answer, placed, placed_unless, unless_refused};
 
 use crate::fault::PlaceFault;
-use fw_types::Handle;
+use fw_types::{Handle, OutOfMemory};
 use fw_world::{World, WorldFault};
 use pe_image::{PeView, check, lay};
 
@@ -38,13 +40,6 @@ pub fn place(w: &mut World, file: &[u8], device: u64) -> Result<Handle, PlaceFau
     }
 }
 
-/// The units for laying an image.
-fn price_of(view: &PeView<'_>) -> u64
-    ensures { result ≡ laying_price view.now }
-{
-    u64::from(view.size()).div_ceil(BYTES_PER_UNIT)
-}
-
 /// Pays for laying an accepted file, and adds its image to the world.
 fn pay_and_lay(w: &mut World, view: &PeView<'_>, device: u64) -> Result<Handle, PlaceFault>
     ensures answer { Gives result (unless_refused None view.now w.old.now) }
@@ -53,29 +48,53 @@ fn pay_and_lay(w: &mut World, view: &PeView<'_>, device: u64) -> Result<Handle, 
     ensures entered { IfOk result (λ image. entry_of image w.new.now.soft ≡
         Some (w.old.now.soft.next_image + entry_place view.now)) }
 {
-    if !w.spend(price_of(view)) {
+    if !pay(w, view) {
         return Err(PlaceFault::Units);
     }
-    lay_next(w, view, device)
+    if w.is_image_full(u64::from(view.size())) {
+        return Err(PlaceFault::Full);
+    }
+    Ok(lay_image(w, view, device)?)
 }
 
-/// Lays an accepted file at the next image address, and adds its image to the world.
-fn lay_next(w: &mut World, view: &PeView<'_>, device: u64) -> Result<Handle, PlaceFault>
-    ensures answer { Gives result (adding_answer view.now w.old.now.soft) }
-    ensures now { UnlessMemory result (w.new.now ≡ added_unless_full view.now device w.old.now) }
-    ensures marks { UnlessMemory result (w.new.marks ≡ w.old.marks) }
+/// The units for laying an image.
+fn price_of(view: &PeView<'_>) -> u64
+    ensures { result ≡ laying_price view.now }
+{
+    u64::from(view.size()).div_ceil(BYTES_PER_UNIT)
+}
+
+/// Pays for laying an accepted file, one unit for each 64 bytes of the size of its image, rounded
+/// up, and answers whether it is paid. If fewer units are left, nothing is spent.
+pub fn pay(w: &mut World, view: &PeView<'_>) -> bool
+    ensures answer { result ≡ nat_le (laying_price view.now) w.old.now.hard.units }
+    ensures now { w.new.now ≡ (if result
+        then on_hard (units_spent (laying_price view.now)) w.old.now else w.old.now) }
+    ensures marks { w.new.marks ≡ w.old.marks }
+{
+    w.spend(price_of(view))
+}
+
+/// Lays an accepted file at the next image address, and adds its image to the world, with its
+/// loaded image block as the interface of a new handle, which is the answer. `device` is the handle
+/// of the device that the file comes from, or 0. The caller has paid, and no limit is met.
+///
+/// # Errors
+///
+/// `OutOfMemory` if there is no memory.
+pub fn lay_image(w: &mut World, view: &PeView<'_>, device: u64) -> Result<Handle, OutOfMemory>
+    requires { is_image_full (size_of view.now) w.old.now.soft ≡ false }
+    ensures answer { IfOk result (λ image. image ≡ w.old.now.soft.database.next) }
+    ensures now { OnOk result (w.new.now ≡ on_soft (file_added view.now device) w.old.now) }
+    ensures marks { OnOk result (w.new.marks ≡ w.old.marks) }
     ensures entered { IfOk result (λ image. entry_of image w.new.now.soft ≡
         Some (w.old.now.soft.next_image + entry_place view.now)) }
 {
     w.is_kept();
-    if w.is_image_full(u64::from(view.size())) {
-        return Err(PlaceFault::Full);
-    }
     let bytes = lay(w.alloc(), view, w.next_image())?;
     match w.add_image(bytes, view.entry(), view.subsystem(), device) {
         Ok(image) => Ok(image),
-        Err(WorldFault::Full) => Err(PlaceFault::Full),
-        Err(WorldFault::OutOfMemory) => Err(PlaceFault::OutOfMemory),
-        Err(WorldFault::NotThere) => unreachable!(),
+        Err(WorldFault::OutOfMemory) => Err(OutOfMemory),
+        Err(WorldFault::Full | WorldFault::NotThere) => unreachable!(),
     }
 }

@@ -1,12 +1,16 @@
 //! ConnectController and DisconnectController, up to where they enter the driver model. The table of
 //! services has them as not built, so their rows are called here.
 
+ghost use Rattle.std.specs.Prelude.{◌≡◌, IfOk, true};
+ghost use Rattle.service_model.specs.Allowed.{is_allowed};
+
 use crate::changes::apply;
 use crate::protocol_tests::{BAD, LIST};
 use crate::tests::{PLACE, STACK_END, world_with};
-use fw_types::{Cause, Rows, Status};
+use fw_types::{Cause, OutOfMemory, Rows, Status};
 use fw_world::World;
 use guest_memory::GuestMem;
+use service_model::laws::reentries_change_nothing;
 use service_model::{Change, Reentry, Served, Stop};
 use service_rows::connecting::{connect_controller, disconnect_controller};
 use std::test::Fail;
@@ -55,24 +59,6 @@ const CONNECTS: [Connect; 16] = [
     (ENDLESS + 8, 0, 0, Ok((63, false, false))),
 ];
 
-/// What the row of ConnectController ends with.
-fn connecting(
-    world: &World,
-    list: u64,
-    path: u64,
-    recursive: u8,
-) -> Result<(u64, bool, bool), Stop> {
-    match connect_controller(4, list, path, recursive, world)? {
-        Change::Connect {
-            count,
-            at_end,
-            recursive,
-            ..
-        } => Ok((count, at_end, recursive)),
-        _ => Err(Stop::Status(Status::NOT_FOUND)),
-    }
-}
-
 /// A world with those lists and paths, and 7 in the last 8 bytes of the stack.
 fn prepared(rt: &impl AllocGlobal) -> Result<World, Fail> {
     let mut world = world_with(rt, 100)?;
@@ -93,9 +79,17 @@ fn prepared(rt: &impl AllocGlobal) -> Result<World, Fail> {
 #[test]
 fn connects(rt: HostRuntime) -> Result<(), Fail> {
     let world = prepared(&rt)?;
-    for (list, path, recursive, ends) in CONNECTS {
+    for (list, path, flag, ends) in CONNECTS {
+        let ends = ends.map(|(count, at_end, recursive)| Change::Connect {
+            controller: 4,
+            list,
+            count,
+            path,
+            at_end,
+            recursive,
+        });
         assert_eq!(rt;
-            connecting(&world, list, path, recursive),
+            connect_controller(4, list, path, flag, &world),
             ends,
             "at {list:x} {path:x}"
         );
@@ -103,33 +97,47 @@ fn connects(rt: HostRuntime) -> Result<(), Fail> {
     Ok(())
 }
 
+/// The row of ConnectController for handle 4, which ends with a change that can be applied.
+fn connect_row(list: u64, path: u64, recursive: u8, world: &World) -> Result<Change, Stop>
+    ensures { IfOk result (λ change. is_allowed change world.now.now ≡ true) }
+{
+    reentries_change_nothing();
+    connect_controller(4, list, path, recursive, world)
+}
+
+/// What the service goes on with, or none if its row stopped.
+fn go_on(change: Result<Change, Stop>, world: &mut World) -> Result<Option<Served>, OutOfMemory>
+    requires { IfOk change (λ change. is_allowed change world.old.now ≡ true) }
+{
+    match change {
+        Ok(change) => Ok(Some(apply(change, world)?)),
+        Err(_) => Ok(None),
+    }
+}
+
 /// The handles are read when the service goes on.
 #[test]
 fn goes_on(rt: HostRuntime) -> Result<(), Fail> {
     let mut world = prepared(&rt)?;
-    let connect = connect_controller(4, TWO, END, 1, &world)
-        .ok()
-        .ok_or("stopped")?;
+    let connect = connect_row(TWO, END, 1, &world);
     assert_eq!(rt;
-        apply(connect, &mut world)?,
-        Served::Again(Reentry::Connect {
+        go_on(connect, &mut world)?,
+        Some(Served::Again(Reentry::Connect {
             controller: 4,
             context: Rows::of(vec![in rt.alloc(); 3, 5]?),
             path: END,
             at_end: true,
             recursive: true,
-        })
+        }))
     );
-    let disconnect = disconnect_controller(4, 3, 99, &world)
-        .ok()
-        .ok_or("stopped")?;
+    let disconnect = disconnect_controller(4, 3, 99, &world);
     assert_eq!(rt;
-        apply(disconnect, &mut world)?,
-        Served::Again(Reentry::Disconnect {
+        go_on(disconnect, &mut world)?,
+        Some(Served::Again(Reentry::Disconnect {
             controller: 4,
             driver: 3,
             child: 99,
-        })
+        }))
     );
     Ok(())
 }

@@ -1,5 +1,5 @@
 -- The load of an image: UEFI 2.8, 7.4 LoadImage and StartImage, as one step.
-use Rattle.std.specs.Prelude.{ℕ, ◌+◌, List, Option, Some, None, Result, Ok, Err, if◌then◌else◌}
+use Rattle.std.specs.Prelude.{ℕ, ◌+◌, nat_lt, List, Option, Some, None, if◌then◌else◌}
 use Rattle.fw_types.specs.Status.{is_error}
 use Rattle.fw_types.specs.declared.status.Status.{Status}
 use Rattle.fw_types.specs.declared.status.TheConstants.Status.{ABORTED, LOAD_ERROR, OUT_OF_RESOURCES, SUCCESS, UNSUPPORTED}
@@ -8,11 +8,11 @@ use Rattle.fw_types.specs.declared.event.Outcome.TheVariants.{Value, Trapped}
 use Rattle.fw_types.specs.declared.image.PeRefusal.{PeRefusal}
 use Rattle.fw_types.specs.declared.image.PeRefusal.TheVariants as refusal
 use Rattle.fw_types.specs.declared.image.ImageNote.TheVariants.{Loaded, Failed, Refused}
-use Rattle.pe_image.specs.ImageRules.{entry_of}
-use Rattle.world_model.specs.World.{Soft, State}
-use Rattle.image_table.specs.declared.fault.PlaceFault.{PlaceFault}
-use Rattle.image_table.specs.declared.fault.PlaceFault.TheVariants as place
-use Rattle.image_table.specs.Placing.{place_answer, placed}
+use Rattle.pe_image.specs.ImageRules.{entry_of, refusal_of, size_of}
+use Rattle.world_model.specs.World.{Soft, State, on_hard, on_soft}
+use Rattle.world_model.specs.Units.{units_spent}
+use Rattle.world_model.specs.Images.{is_image_full}
+use Rattle.image_table.specs.Placing.{file_added, laying_price}
 use Rattle.driver_model.specs.DriverCall.{entry_called, undone}
 use Rattle.replay_shell.specs.declared.image_life.ImageLoad.{ImageLoad}
 
@@ -35,13 +35,6 @@ refusal_status refusal.Section = LOAD_ERROR
 refusal_status refusal.Reloc = LOAD_ERROR
 refusal_status refusal.Entry = LOAD_ERROR
 
--- a load whose image is not placed
-abbrev pub unplaced : PlaceFault → ImageLoad
-unplaced (place.Refused refusal) = record { note = Refused refusal; status = refusal_status refusal }
-unplaced place.Units = failed ABORTED
-unplaced place.Full = failed OUT_OF_RESOURCES
-unplaced place.OutOfMemory = failed OUT_OF_RESOURCES
-
 -- the status of a load whose entry ended so, if it failed
 abbrev pub failure_of : Outcome → Option Status
 failure_of (Value status) = if is_error status then Some status else None
@@ -55,11 +48,22 @@ loaded_unless (Some status) image before w = (failed status, undone before w)
 abbrev pub entered : ℕ → Soft → Outcome × State → ImageLoad × State
 entered image before (outcome, w) = loaded_unless (failure_of outcome) image before w
 
--- the entry of an image that was placed is called; else the load fails for why it was not placed
-abbrev pub loaded_by : Result ℕ PlaceFault → List ℕ → State → ImageLoad × State
-loaded_by (Ok image) file w = entered image w.soft (entry_called image (w.soft.next_image + entry_of file) (placed file 0 w))
-loaded_by (Err fault) file w = (unplaced fault, placed file 0 w)
+-- The image is laid and added, and its entry is called, unless a limit is met.
+abbrev pub laid_and_entered : List ℕ → State → ImageLoad × State
+laid_and_entered file w =
+    if is_image_full (size_of file) w.soft then (failed OUT_OF_RESOURCES, w)
+    else entered w.soft.database.next w.soft (entry_called w.soft.database.next (w.soft.next_image + entry_of file) (on_soft (file_added file 0) w))
+
+-- An accepted file is paid for. If too few units are left, nothing is spent.
+abbrev pub accepted : List ℕ → State → ImageLoad × State
+accepted file w =
+    if nat_lt w.hard.units (laying_price file) then (failed ABORTED, w)
+    else laid_and_entered file (on_hard (units_spent (laying_price file)) w)
+
+abbrev pub unless_refused : Option PeRefusal → List ℕ → State → ImageLoad × State
+unless_refused (Some refusal) file w = (record { note = Refused refusal; status = refusal_status refusal }, w)
+unless_refused None file w = accepted file w
 
 -- the load of the image that a file is
 abbrev pub loaded : List ℕ → State → ImageLoad × State
-loaded file w = loaded_by (place_answer file w) file w
+loaded file w = unless_refused (refusal_of file) file w

@@ -1,16 +1,17 @@
-ghost use Rattle.std.specs.Prelude.{◌≡◌, ◌≢◌, ℕ, Some, IfOk, OnOk, is_some, true};
+ghost use Rattle.std.specs.Prelude.{◌≡◌, ℕ, Some, IfOk, OnOk, is_some, true};
 ghost use Rattle.world_model.specs.World.{Soft};
 ghost use Rattle.world_model.specs.Images.{entry_of};
 ghost use Rattle.world_model.specs.Marks.{depth};
 ghost use Rattle.driver_model.specs.DriverCall.{entry_called, kept_or_undone};
 ghost use Rattle.driver_model.specs.Spending.{Spends};
 ghost use Rattle.replay_shell.specs.Machine.{IsAtRest, IsOnTrial, marked_soft};
-ghost use Rattle.replay_shell.specs.ImageLife.{entered, failed, failure_of, loaded, refusal_status, unplaced};
+ghost use Rattle.replay_shell.specs.ImageLife.{entered, failed, failure_of, laid_and_entered, loaded, refusal_status};
 
 use bind_engine::call_entry;
 use fw_types::{Handle, ImageNote, OutOfMemory, Outcome, PeRefusal, Status};
 use fw_world::{Mark, World};
-use image_table::{PlaceFault, place};
+use image_table::{lay_image, pay};
+use pe_image::{PeView, check};
 
 /// The device of an image that comes from no device.
 const NO_DEVICE: u64 = 0;
@@ -121,28 +122,31 @@ fn enter(world: &mut World, mark: Mark, image: Handle) -> Result<ImageLoad, OutO
     settle(world, mark, image, outcome)
 }
 
-/// The load of an image that was not placed.
+/// Lays the image of an accepted file that is paid for, and calls its entry point. If the entry
+/// point fails the soft part is as before. At a limit nothing is done.
 ///
 /// # Errors
 ///
-/// `OutOfMemory` if that is why it was not placed.
-fn not_placed(fault: PlaceFault) -> Result<ImageLoad, OutOfMemory>
-    ensures load { IfOk result (λ load. load ≡ unplaced fault) }
-    ensures memory { OnOk result (fault ≢ PlaceFault.OutOfMemory) }
+/// `OutOfMemory` if there is no memory for the image or for what its entry point does.
+fn lay_and_enter(world: &mut World, view: &PeView<'_>) -> Result<ImageLoad, OutOfMemory>
+    requires { IsAtRest world.old }
+    ensures done { IfOk result
+        (λ load. laid_and_entered view.now world.old.now ≡ (load, world.new.now)) }
+    ensures spends { OnOk result (Spends world.old.now world.new.now) }
+    ensures rest { OnOk result (IsAtRest world.new) }
 {
-    match fault {
-        PlaceFault::Refused(refusal) => Ok(ImageLoad {
-            note: ImageNote::Refused(refusal),
-            status: status_of(refusal),
-        }),
-        PlaceFault::Units => Ok(failed(Status::ABORTED)),
-        PlaceFault::Full => Ok(failed(Status::OUT_OF_RESOURCES)),
-        PlaceFault::OutOfMemory => Err(OutOfMemory),
+    if world.is_image_full(u64::from(view.size())) {
+        return Ok(failed(Status::OUT_OF_RESOURCES));
     }
+    let mark = world.mark()?;
+    let image = lay_image(world, view, NO_DEVICE)?;
+    enter(world, mark, image)
 }
 
-/// Loads the image that the bytes of a file are (UEFI 2.8, 7.4: LoadImage and StartImage): places
-/// it, and calls its entry point. If the entry point fails the soft part is as before.
+/// Loads the image that the bytes of a file are (UEFI 2.8, 7.4: LoadImage and StartImage): checks
+/// the file, pays for laying the image, lays it, and calls its entry point. If the entry point
+/// fails the soft part is as before. No mark is made before the file is accepted and paid for, and
+/// none at a limit.
 ///
 /// # Errors
 ///
@@ -154,13 +158,17 @@ pub fn load_image(world: &mut World, file: &[u8]) -> Result<ImageLoad, OutOfMemo
     ensures spends { OnOk result (Spends world.old.now world.new.now) }
     ensures rest { OnOk result (IsAtRest world.new) }
 {
-    let mark = world.mark()?;
-    match place(world, file, NO_DEVICE) {
-        Ok(image) => enter(world, mark, image),
-        Err(fault) => {
-            let load = not_placed(fault)?;
-            world.commit(mark);
-            Ok(load)
+    let view = match check(file) {
+        Err(refusal) => {
+            return Ok(ImageLoad {
+                note: ImageNote::Refused(refusal),
+                status: status_of(refusal),
+            });
         }
+        Ok(view) => view,
+    };
+    if !pay(world, &view) {
+        return Ok(failed(Status::ABORTED));
     }
+    lay_and_enter(world, &view)
 }

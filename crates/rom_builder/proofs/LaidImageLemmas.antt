@@ -102,7 +102,7 @@ get_or-zeros k i =
       | inr past ↦ get_or_past (replicate k 0) i 0 (omega (arith, length-replicate {A = ℕ} k 0))
     ]
 
--- after bytes that are padded_bytes are zeros
+-- what pads bytes is zeros
 zero_after : (bytes : List ℕ) (place : ℕ) → length bytes ≤ place → slice_index (padded_bytes bytes) place ≡ 0
 zero_after bytes place past =
     get_or-append_right bytes (replicate (aligned (length bytes) - length bytes) 0) (length bytes) place 0 refl past ∙ get_or-zeros (aligned (length bytes) - length bytes) (place - length bytes)

@@ -54,7 +54,7 @@ mapped-first new (s ∷ rest) all =
     let behind : nat_lt s.base new.base ≡ false = grind (arith, nat_tests, parts.0) in
     rw behind refl
 
--- the fixed_segments ones with a new one, unless that is writable
+-- the fixed segments with a new one, unless that is writable
 abbrev added : Bool → Segment → List Segment → List Segment
 added writable new others = if writable then others else mapped new others
 

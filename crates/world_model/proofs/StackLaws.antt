@@ -191,7 +191,7 @@ filter-others base (other ∷ others) none =
     let parts = or_parts (nat_eq other base) (list_any (λ (b : ℕ). nat_eq b base) others) none in
     rw (parts.0, filter-others base others parts.1) refl
 
--- and block_room out again it leaves the others
+-- without it again, the others are left
 inserted-without : (base : ℕ) (others : List ℕ) → list_any (λ (b : ℕ). nat_eq b base) others ≡ false → filter (λ (b : ℕ). not (nat_eq b base)) (inserted base others) ≡ others
 inserted-without base [] none = let here : nat_eq base base ≡ true = grind (arith, nat_tests) in rw here refl
 inserted-without base (other ∷ others) none =

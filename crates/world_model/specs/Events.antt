@@ -39,7 +39,7 @@ with_result serial outcome event = if nat_eq event.serial serial then record eve
 abbrev pub event_ended : ℕ → Outcome → Hard → Hard
 event_ended serial outcome hard = record hard { events = map (with_result serial outcome) hard.events }
 
--- the events are block_room away
+-- the events are taken away
 abbrev pub events_taken : Hard → Hard
 events_taken hard = record hard { events = [] }
 

@@ -15,7 +15,7 @@ abbrev pub put_back : List Soft → State → State
 put_back [] w = w
 put_back (soft ∷ marks) w = record w { soft = soft }
 
--- what the older_marks marks keep
+-- what the older marks keep
 abbrev pub older_marks : List Soft → List Soft
 older_marks [] = []
 older_marks (soft ∷ marks) = marks

@@ -1,0 +1,10 @@
+use Rattle.world_model.specs.World.{Soft}
+use Rattle.world_model.proofs.KeepingRecords.{child_leaving}
+use Rattle.soft_part.specs.Soft.{soft_of}
+use Rattle.soft_part.proofs.soft_part.SoftPart.leave_child.Goals as goal
+
+pub invariant_of-self : goal.invariant_of-self
+invariant_of-self c =
+    let inside = c.self.inside in
+    let soft : Soft = soft_of inside.memory inside.database inside.records inside.plain in
+    rw (c.drop_on.ensures, c.get.ensures.value) (child_leaving soft c.args.handle c.args.agent c.args.child c.self.invariant)

@@ -1,0 +1,33 @@
+-- The soft part of a world, from its pieces as the code has them.
+use Rattle.std.specs.Prelude.{◌≡◌, List}
+use Rattle.guest_memory.specs.declared.segment.Segment.{Segment}
+use Rattle.handle_db.specs.Database.{Database}
+use Rattle.open_records.specs.OpenRecords.{RecordTable}
+use Rattle.world_model.specs.World.{Soft}
+use Rattle.world_model.specs.Opening.{opening_soft}
+use Rattle.soft_part.specs.declared.plain_part.PlainPart.{PlainPart}
+
+abbrev pub soft_of : List Segment → Database → RecordTable → PlainPart → Soft
+soft_of memory database records plain = record {
+  memory = memory;
+  database = database;
+  records = records;
+  images = plain.images.items;
+  thunks = plain.thunks.items;
+  tpl = plain.tpl;
+  next_image = plain.next_image;
+  next_block = plain.next_block;
+  next_thunk = plain.next_thunk;
+}
+
+-- the soft part with other plain fields
+abbrev pub with_plain : PlainPart → Soft → Soft
+with_plain plain soft = soft_of soft.memory soft.database soft.records plain
+
+-- whether plain fields are those of the opening state
+abbrev pub IsOpening : PlainPart → Type 0
+IsOpening plain = with_plain plain opening_soft ≡ opening_soft
+
+-- whether plain fields are the same
+abbrev pub IsCopyOf : PlainPart → PlainPart → Type 0
+IsCopyOf plain copy = (soft : Soft) → with_plain copy soft ≡ with_plain plain soft

@@ -1,0 +1,20 @@
+//! The soft part of the world: all that an undo puts back. It has the memory of drivers, the handle
+//! database, the open records, the images that are loaded, the thunks into them, the task priority
+//! level and the next addresses.
+//!
+//! A contract sees a `SoftPart` as the record `Soft` of `world_model`. Each call that changes it
+//! says which single change of `world_model` it is. What holds of every soft part is the type's
+//! invariant.
+#![tactic(auto)]
+
+mod database;
+mod image_block;
+mod mapping;
+mod opens;
+mod plain_part;
+mod soft_part;
+mod stack;
+mod tables;
+mod thunks;
+
+pub use soft_part::SoftPart;
