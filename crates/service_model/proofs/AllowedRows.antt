@@ -71,7 +71,7 @@ live_or_zero-live handle w some = by_test (dead handle w) refl some
     by_test true is some = absurd cc
     by_test false is some = lives handle w is
 
-live_or_zero-none : (handle : ℕ) (w : State) → is_none_or_live (live_or_zero handle w) w.soft.database ≡ true
+pub live_or_zero-none : (handle : ℕ) (w : State) → is_none_or_live (live_or_zero handle w) w.soft.database ≡ true
 live_or_zero-none handle w = by_test (dead handle w) refl
   where
     by_test : (gone : Bool) → dead handle w ≡ gone → is_none_or_live (if gone then 0 else handle) w.soft.database ≡ true
@@ -85,7 +85,7 @@ record Opens (handle : ℕ) (name : List ℕ) (out agent controller attr : ℕ) 
   for_live : is_none_or_live controller w.soft.database ≡ true
   legal : is_legal attr ≡ true
 
-six : (a b c d e f : Bool) → a ≡ true → b ≡ true → c ≡ true → d ≡ true → e ≡ true → f ≡ true → (a && (b && (c && (d && (e && f))))) ≡ true
+pub six : (a b c d e f : Bool) → a ≡ true → b ≡ true → c ≡ true → d ≡ true → e ≡ true → f ≡ true → (a && (b && (c && (d && (e && f))))) ≡ true
 six a b c d e f p q r s t u = rw (p, q, r, s, t, u) refl
 
 enters : (handle : ℕ) (name : List ℕ) (out agent controller attr : ℕ) (w : State) → Opens handle name out agent controller attr w → is_live agent w.soft.database ≡ true
@@ -124,7 +124,7 @@ interface-fine (Some found) handle name out agent controller attr w is can legal
     (live_or_zero-live agent w)
 
 -- the place of the interface can be written
-out-writable : (bits attr out : ℕ) (w : State) → legal bits ≡ Ok attr → writable (out_size bits) out w ≡ Ok tt → can_store (out_of attr out) w ≡ true
+pub out-writable : (bits attr out : ℕ) (w : State) → legal bits ≡ Ok attr → writable (out_size bits) out w ≡ Ok tt → can_store (out_of attr out) w ≡ true
 out-writable bits attr out w is can = by_test (nat_eq attr TEST_PROTOCOL) (subst (λ size. is_writable_range w.soft.memory out (out_size size) ≡ true) (is-same bits attr is) (can-write (out_size bits) out w can))
   where
     by_test : (test : Bool) → is_writable_range w.soft.memory out (if test then 0 else 8) ≡ true → can_store (if test then None else Some out) w ≡ true

@@ -11,4 +11,5 @@ pub mod PutBytes
 pub mod HasInterface
 pub mod LastingInterfaces
 pub mod SoftPart
+pub mod SecondLooks
 pub mod InstallPairs

@@ -347,7 +347,7 @@ change-goes R by ground (Block contents buffer count count_first) w kept can =
 change-goes R by ground (Connect controller list count path at_end recursive) w kept can = by.same w.soft kept
 change-goes R by ground (Disconnect controller driver child) w kept can = by.same w.soft kept
 
-end-goes : (R : Soft → Soft → Type 0) → IsKeptBy R → Ground → (result : Result Change Stop) (w : State) → IsKept w.soft → Says (λ change. is_allowed change w ≡ true) result → Goes R w (end_of_row w result)
+pub end-goes : (R : Soft → Soft → Type 0) → IsKeptBy R → Ground → (result : Result Change Stop) (w : State) → IsKept w.soft → Says (λ change. is_allowed change w ≡ true) result → Goes R w (end_of_row w result)
 end-goes R by ground (Ok change) w kept can = change-goes R by ground change w kept (can change refl)
 end-goes R by ground (Err (stop.Status status)) w kept can = by.same w.soft kept
 end-goes R by ground (Err (stop.Trap cause)) w kept can = by.same w.soft kept

@@ -19,6 +19,7 @@ use Rattle.service_model.specs.BootServices.{end_of_row, row}
 use Rattle.service_model.specs.Changes.{allot_served, applied, block_made, block_served, both_stored, bytes_stored, free_served, install_served, many_served, new_handle_stored, number_stored, open_served, pair_added, pair_at, pair_installed, pairs_installed, stored_if, uninstall_served}
 use Rattle.service_model.specs.Words.{◌>>=◌}
 use Rattle.service_model.specs.Contents.{contents_bytes, contents_count, number_bytes}
+use Rattle.service_model.specs.SecondLook.{SpendsNothing, looked_again, second_look}
 use Rattle.service_model.specs.Untouched.{EventsStay, TplStays, UnitsNeverRise}
 use Rattle.service_model.specs.declared.plan.Change.{Change}
 use Rattle.service_model.specs.declared.plan.Change.TheVariants.{Allot, Block, Close, Connect, Copy, Disconnect, Fill, Free, Handles, Install, InstallMany, Open, SetTpl, Store, Uninstall, Value}
@@ -209,3 +210,9 @@ units-never-rise s c w =
     (omega arith)
     (λ price. omega arith)
     (λ price a. end-units price ((row s).rest c a (paid price w)) w)
+
+-- ---- the second look of an open
+
+pub looks-spend-nothing : SpendsNothing
+unfolding looked_again
+looks-spend-nothing r w = end-hard (second_look r w) w

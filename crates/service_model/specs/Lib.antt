@@ -8,3 +8,4 @@ pub mod Changes
 pub mod BootServices
 pub mod Untouched
 pub mod Allowed
+pub mod SecondLook

@@ -12,6 +12,7 @@ ghost use Rattle.service_model.specs.Allowed.{
   RowInstallsPairs,
   RowsAreAllowed,
 };
+ghost use Rattle.service_model.specs.SecondLook.{SpendsNothing};
 ghost use Rattle.service_model.specs.Untouched.{
   ErrorsChangeNothing,
   EventsStay,
@@ -109,4 +110,10 @@ pub fn services_trap()
 /// No boot service that is built so far enters the driver model again.
 pub fn services_end()
     ensures { NoneGoesOn }
+{}
+
+/// The second look of an OpenProtocol for which a driver was disconnected spends no units and leaves
+/// the events.
+pub fn second_looks_spend_nothing()
+    ensures { SpendsNothing }
 {}

@@ -1,0 +1,2 @@
+pub mod NullHandle
+pub mod SortedVersions

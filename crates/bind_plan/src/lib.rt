@@ -1,0 +1,20 @@
+//! Which drivers are called for a controller, and in what order (UEFI 2.8, 7.3: ConnectController,
+//! DisconnectController).
+//!
+//! `bindings` reads driver bindings out of guest memory. `driver_order` has the order in which
+//! ConnectController asks drivers whether they support a controller, and `stop_order` the list of drivers
+//! that DisconnectController stops. No call changes the world, and each answers what the definitions of
+//! `engine_model` say: `specs/Bindings.antt`, `DriverOrder.antt` and `StopOrder.antt`.
+#![tactic(auto)]
+
+mod bindings;
+mod driver_order;
+mod stop_order;
+
+pub use bindings::binding;
+pub use driver_order::order;
+pub use engine_model::BindingBlock;
+pub use stop_order::stop_list;
+
+#[cfg(test)]
+mod tests;

@@ -1,0 +1,182 @@
+use crate::{BindingBlock, binding, order, stop_list};
+use fw_types::{Attr, Guid, Handle, Known, put_u32, put_u64};
+use fw_world::World;
+use guest_memory::SegKind;
+use std::alloc::{AllocError, Global};
+use std::process::Abort;
+use std::test::Fail;
+
+/// A handle by its number, which is not 0.
+fn numbered(rt: &impl Abort, number: u64) -> Handle {
+    Handle::new(number).expect(rt, "a handle's number is not 0")
+}
+
+/// `room` bytes and after them a binding's 48, with three functions, a Version and two handles.
+fn binding_bytes(
+    alloc: Global,
+    room: usize,
+    version: u32,
+    image: u64,
+) -> Result<Vec<u8>, AllocError> {
+    let mut block = [0u8; 48];
+    put_u64(&mut block, 0, 0x22000);
+    put_u64(&mut block, 8, 0x22008);
+    put_u64(&mut block, 16, 0x22010);
+    put_u32(&mut block, 24, version);
+    put_u64(&mut block, 32, image);
+    put_u64(&mut block, 40, u64::MAX);
+    let mut bytes = vec![in alloc; 0xee; room]?;
+    bytes.extend_from_slice(&block)?;
+    Ok(bytes)
+}
+
+/// A new handle with a driver binding in a block of its own.
+fn add_driver(world: &mut World, version: u32, image: u64) -> Result<Handle, Fail> {
+    let bytes = binding_bytes(world.alloc(), 0, version, image)?;
+    let at = world.allot(bytes, SegKind::Pool)?;
+    let name = Guid::known(Known::DriverBinding);
+    Ok(world.install(None, name, at, Handle::firmware())?)
+}
+
+/// A new handle whose driver binding lies at the end of a block, without its last byte.
+fn add_cut_driver(world: &mut World) -> Result<Handle, Fail> {
+    let mut bytes = binding_bytes(world.alloc(), 16, u32::MAX, 9)?;
+    let _ = bytes.pop();
+    let at = world.allot(bytes, SegKind::Pool)?;
+    let name = Guid::known(Known::DriverBinding);
+    Ok(world.install(None, name, at.saturating_add(16), Handle::firmware())?)
+}
+
+/// A world with a disk, handle 3, and its partition, 7; with the drivers 4 and 5 of Version 0x10 and 6 of
+/// the greatest one; with 8, of whose driver binding 47 bytes can be read; and with an image, 9. The
+/// drivers 4 and 6 are of image 9, 5 is of 8, and 2, the bus driver, is of 1.
+fn with_drivers(rt: &impl AllocGlobal) -> Result<World, Fail> {
+    let mut world = World::new(rt.alloc())?;
+    let (disk, path) = (Guid::known(Known::PciIo), Guid::known(Known::DevicePath));
+    let owner = Handle::firmware();
+    let controller = world.install(None, disk, 0, owner)?;
+    let _ = world.install(Some(controller), path, 0, owner)?;
+    for (version, image) in [(0x10, 9), (0x10, 8), (u32::MAX, 9)] {
+        let _ = add_driver(&mut world, version, image)?;
+    }
+    let _ = world.install(None, disk, 0, owner)?;
+    let _ = add_cut_driver(&mut world)?;
+    let image = Guid::known(Known::LoadedImage);
+    let _ = world.install(None, image, 0, owner)?;
+    Ok(world)
+}
+
+/// A context and a platform list, and the handles of the drivers in their order.
+type Row = (&'static [u64], &'static [u64], &'static [u64]);
+
+const ROWS: [Row; 12] = [
+    (&[], &[], &[6, 4, 5, 2]),
+    // a context with a driver twice; the handle of an image means nothing there
+    (&[5, 9, 5], &[], &[5, 6, 4, 2]),
+    (&[0, 77, 3, 8], &[], &[6, 4, 5, 2]),
+    // in the platform list it means the drivers of the image
+    (&[], &[9], &[4, 6, 5, 2]),
+    (&[], &[1], &[2, 6, 4, 5]),
+    // so does a handle whose binding can't be read
+    (&[], &[8], &[5, 6, 4, 2]),
+    // others mean nothing
+    (&[], &[3, 0, 77], &[6, 4, 5, 2]),
+    // the context comes before the platform list, and a driver of both is there once
+    (&[2], &[5], &[2, 5, 6, 4]),
+    (&[4], &[4, 5], &[4, 5, 6, 2]),
+    (&[6], &[9, 2], &[6, 4, 2, 5]),
+    (&[9], &[2, 9], &[2, 4, 6, 5]),
+    (&[2, 5, 4, 6], &[6, 5], &[2, 5, 4, 6]),
+];
+
+#[test]
+fn drivers_in_order(rt: HostRuntime) -> Result<(), Fail> {
+    let world = with_drivers(&rt)?;
+    let controller = numbered(&rt, 3);
+    for (context, platform, wanted) in ROWS {
+        let blocks = order(&world, controller, context, platform)?;
+        let handles: Vec<u64> = blocks
+            .iter()
+            .map(|block| block.handle.get())
+            .collect(rt.alloc())?;
+        assert_eq!(rt;
+            handles.as_slice(),
+            wanted,
+            "at {context:?} and {platform:?}"
+        );
+    }
+    Ok(())
+}
+
+/// All fields of a binding, and handles that have none.
+#[test]
+fn bindings_of_handles(rt: HostRuntime) -> Result<(), Fail> {
+    let world = with_drivers(&rt)?;
+    let first = binding(&world, 4).ok_or("handle 4 has a binding")?;
+    let wanted = BindingBlock {
+        handle: numbered(&rt, 4),
+        supported: 0x22000,
+        start: 0x22008,
+        stop: 0x22010,
+        version: 0x10,
+        image: 9,
+        at: first.at,
+    };
+    assert_eq!(rt; first, wanted);
+    for handle in [0, 1, 3, 8, 9, 77] {
+        assert!(rt; binding(&world, handle).is_none(), "at {handle}");
+    }
+    Ok(())
+}
+
+/// Opens the disk's PCI I/O, or its device path, for an agent with an attribute.
+fn open(
+    rt: &impl Abort,
+    world: &mut World,
+    name: Known,
+    opened: (u64, u64, u32),
+) -> Result<(), Fail> {
+    let (agent, controller, bits) = opened;
+    let (disk, guid) = (numbered(rt, 3), Guid::known(name));
+    let attr = Attr::legal(bits).expect(rt, "a legal attribute");
+    assert!(rt; world.db().interface(disk, guid).is_some());
+    assert!(rt; world.db().is_live(agent));
+    assert!(rt; world.db().is_live(controller));
+    let verdict = world.entries().judged(disk, guid, agent, controller, attr);
+    assert!(rt; verdict.may_enter());
+    Ok(world.enter(disk, guid, agent, controller, attr)?)
+}
+
+/// A controller, a driver and a child, and the drivers to stop in their order.
+type StopRow = (u64, u64, u64, Option<&'static [u64]>);
+
+const STOP_ROWS: [StopRow; 10] = [
+    // by the protocols of the disk in order of installation: PCI I/O, then its device path
+    (3, 0, 0, Some(&[5, 4])),
+    (3, 4, 0, Some(&[4])),
+    (3, 6, 0, Some(&[])),
+    // the partition is a child of driver 4 alone
+    (3, 0, 7, Some(&[4])),
+    (3, 4, 7, Some(&[4])),
+    (3, 5, 7, None),
+    (3, 0, 9, None),
+    // with no driver the child is not looked at
+    (3, 6, 7, Some(&[])),
+    (7, 0, 9, Some(&[])),
+    (9, 0, 0, Some(&[])),
+];
+
+#[test]
+fn drivers_to_stop(rt: HostRuntime) -> Result<(), Fail> {
+    let mut world = with_drivers(&rt)?;
+    open(&rt, &mut world, Known::DevicePath, (4, 3, 0x10))?;
+    open(&rt, &mut world, Known::PciIo, (5, 3, 0x10))?;
+    open(&rt, &mut world, Known::PciIo, (4, 7, 0x08))?;
+    open(&rt, &mut world, Known::PciIo, (6, 9, 0x08))?;
+    for (controller, driver, child, wanted) in STOP_ROWS {
+        let agents = stop_list(&world, numbered(&rt, controller), driver, child)?;
+        let found = agents.as_ref().map(|agents| agents.as_slice());
+        assert!(rt; found == wanted, "at {controller}, {driver} and {child}");
+    }
+    Ok(())
+}
