@@ -1,0 +1,4 @@
+pub mod PathLemmas
+pub mod TextLemmas
+pub mod NodesLemmas
+pub mod GrowingText

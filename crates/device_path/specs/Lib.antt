@@ -1,0 +1,4 @@
+pub mod DevicePath
+pub mod PathText
+pub mod Steps
+pub mod PathNodes

@@ -1,0 +1,11 @@
+pub mod FieldLemmas
+pub mod PassingLines
+pub mod BarLemmas
+pub mod CountLemmas
+pub mod DeviceLemmas
+pub mod BoardLimits
+pub mod LineLaws
+pub mod LocationLaws
+pub mod TableLemmas
+pub mod WriteLaws
+pub mod FirstDevices

@@ -1,0 +1,6 @@
+use Rattle.std.proofs.Common.{length, ap, arith}
+use Rattle.pci_model.proofs.BoardLimits.{few_functions}
+use Rattle.pci_model.proofs.board.Board.functions.Goals as goal
+
+pub overflow_cast-result : goal.overflow_cast-result
+overflow_cast-result c = omega (arith, few_functions c.self.inside.lines.items c.self.invariant.sound.lines, ap length c.self.invariant.functions)

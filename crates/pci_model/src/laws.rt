@@ -1,0 +1,48 @@
+//! Laws of boards, over the definitions alone. Each is the contract of a function with no code.
+ghost use Rattle.pci_model.specs.Laws.{AmongItsBus, BarApart, BarByte, BarNotConfig, BarReadBack, BarsApart, ConfigApart, ConfigByte, ConfigNotBar, EachPasses, FewFunctions, FewLines, FewRoots, FoundAtLocation, IsWhereFound, OnlyOfBus, RefusedAtFirst};
+
+/// Lines that are no board are refused for the first line that has a fault; each line of a board
+/// has none.
+pub fn lines_are_checked()
+    ensures refused { RefusedAtFirst }
+    ensures passes { EachPasses }
+{}
+
+/// A board has at most 16 root bridges, 256 functions and 2,064 lines: a line for each of these,
+/// and for 6 BARs and a ROM of each function.
+pub fn boards_are_small()
+    ensures roots { FewRoots }
+    ensures functions { FewFunctions }
+    ensures lines { FewLines }
+{}
+
+/// The number of a function and its location undo one another. So no two functions are at one
+/// location.
+pub fn locations_are_numbers()
+    ensures found { FoundAtLocation }
+    ensures there { IsWhereFound }
+{}
+
+/// The functions on a bus are all of them and no other.
+pub fn buses_are_whole()
+    ensures all { AmongItsBus }
+    ensures only { OnlyOfBus }
+{}
+
+/// Which bytes a write changes: of a BAR those that it reaches, and of configuration space those of
+/// them that can be written.
+#[tactic(auto, unfolding(fw_types::specs::Layout::put))]
+pub fn writes_are_bytes()
+    ensures config { ConfigByte }
+    ensures bar { BarByte }
+{}
+
+/// A write changes nothing that is read elsewhere, and what is written to a BAR is read back.
+pub fn writes_stay_apart()
+    ensures config { ConfigApart }
+    ensures config_not_bar { ConfigNotBar }
+    ensures bar { BarApart }
+    ensures bars { BarsApart }
+    ensures bar_not_config { BarNotConfig }
+    ensures read_back { BarReadBack }
+{}
