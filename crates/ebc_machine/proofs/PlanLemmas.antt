@@ -1,8 +1,9 @@
 -- What holds of every instruction's plan, proved for each row of the table of effects.
-use Rattle.std.proofs.Common.{◌≡◌, ℕ, ◌%◌, Bool, true, false, nat_eq, cond, List, [], ◌∷◌, Option, Some, None, Result, Ok, Err, IfOk, ◌⊎◌, inl, inr, refl, subst, arith}
+use Rattle.std.proofs.Common.{◌≡◌, ℕ, ◌%◌, Bool, true, false, nat_eq, cond, List, [], ◌∷◌, ◌∙◌, Option, Some, None, Result, Ok, Err, IfOk, ◌⊎◌, inl, inr, refl, ap, subst, arith}
 use Rattle.std.specs.List.{list_any}
 use Rattle.std.specs.Map.{lookup}
 use Rattle.std.proofs.lemmas.Bool.Decides.{nat_tests}
+use Rattle.std.proofs.lemmas.List.{set-get_or, set-set}
 use Rattle.ebc_decode.specs.Columns.{is_set, m6, m7}
 use Rattle.ebc_decode.specs.Sizes.{low}
 use Rattle.ebc_decode.specs.Spelling.{decoding}
@@ -17,8 +18,9 @@ use Rattle.guest_memory.specs.GuestMemory.{image_code}
 use Rattle.guest_memory.specs.declared.segment.Segment.{Segment}
 use Rattle.ebc_machine.specs.Arithmetic.{result_of}
 use Rattle.ebc_machine.specs.Effects.{Effect, break, is_taken, target_of, jump, jump_8, call, return, compare, unary, binary, compare_operand, compare_immediate, move_operand, move, signed_move_operand, move_signed, move_immediate, move_natural, move_relative, load_special, store_special, push_operand, push, pop, push_operation, pop_operation, effects, effect_in, plan_of_instr}
-use Rattle.ebc_machine.specs.Operands.{◌>>=◌, above, is_wide, is_x_indirect, operation_size, operand_1, operand_2, load, register, goes_on, result_to, move_to, jumps, with_condition}
+use Rattle.ebc_machine.specs.Operands.{◌>>=◌, above, at_address, with_register, is_wide, is_x_indirect, operation_size, operand_1, operand_2, load, register, goes_on, result_to, move_to, jumps, with_condition}
 use Rattle.ebc_machine.specs.Plan.{Plan}
+use Rattle.ebc_machine.specs.PutBack.{put_back}
 use Rattle.ebc_machine.specs.Step.{plan_by, plan_of}
 use Rattle.ebc_machine.specs.StepLaws.{is_jump, sets_flags}
 use Rattle.ebc_machine.specs.declared.arithmetic.Operation.{Operation}
@@ -34,6 +36,7 @@ pub record IsOrderly (opcode : ℕ) (cpu : Cpu) (next : ℕ) (plan : Plan) : Typ
   pub even : (plan.cpu.ip ≡ next) ⊎ (plan.cpu.ip % 2 ≡ 0)
   pub flags : (sets_flags opcode ≡ true) ⊎ (plan.cpu.flags ≡ cpu.flags)
   pub request : (plan.request ≡ Nothing) ⊎ (plan.store ≡ None)
+  pub back : (plan.store ≡ None) ⊎ (put_back plan.cpu cpu.ip (register cpu 0) ≡ cpu)
 
 pub record Keeps (opcode : ℕ) (effect : Effect) : Type 0 where
   pub holds : (cpu : Cpu) (segments : List Segment) (instr : Instr) (next : ℕ) → IfOk (effect cpu segments instr next) (IsOrderly opcode cpu next)
@@ -52,34 +55,45 @@ either-plan : (b : Bool) (x y : Plan) (Q : Plan → Type 0) → Q x → Q y → 
 either-plan true x y Q h k = h
 either-plan false x y Q h k = k
 
+-- before a write only IP changes, or IP and R0
+ip_back : (cpu : Cpu) (ip : ℕ) → put_back (at_address cpu ip) cpu.ip (register cpu 0) ≡ cpu
+ip_back cpu ip = ap (λ (r : List ℕ). record { r = r; flags = cpu.flags; ip = cpu.ip }) (set-get_or cpu.r 0 0)
+
+top_back : (cpu : Cpu) (ip top : ℕ) → put_back (at_address (with_register cpu 0 top) ip) cpu.ip (register cpu 0) ≡ cpu
+top_back cpu ip top =
+    ap (λ (r : List ℕ). record { r = r; flags = cpu.flags; ip = cpu.ip }) (set-set cpu.r 0 top (register cpu 0) ∙ set-get_or cpu.r 0 0)
+
 -- an instruction that only goes on
-plain : (opcode : ℕ) (cpu : Cpu) (next : ℕ) (plan : Plan) → plan.cpu.ip ≡ next → plan.cpu.flags ≡ cpu.flags → plan.request ≡ Nothing → IsOrderly opcode cpu next plan
-plain opcode cpu next plan ip flags request = record { ip = inr ip; even = inl ip; flags = inr flags; request = inl request }
+plain : (opcode : ℕ) (cpu : Cpu) (next : ℕ) (plan : Plan) → plan.cpu.ip ≡ next → plan.cpu.flags ≡ cpu.flags → plan.request ≡ Nothing → (plan.store ≡ None) ⊎ (put_back plan.cpu cpu.ip (register cpu 0) ≡ cpu)
+    → IsOrderly opcode cpu next plan
+plain opcode cpu next plan ip flags request back = record { ip = inr ip; even = inl ip; flags = inr flags; request = inl request; back = back }
 
 result_plain : (opcode : ℕ) (cpu : Cpu) (instr : Instr) (next value : ℕ) → IsOrderly opcode cpu next (result_to cpu instr next value)
 result_plain opcode cpu instr next value =
-    either-plan (is_x_indirect instr) _ _ (IsOrderly opcode cpu next) (plain opcode cpu next _ refl refl refl) (plain opcode cpu next _ refl refl refl)
+    either-plan (is_x_indirect instr) _ _ (IsOrderly opcode cpu next)
+    (plain opcode cpu next _ refl refl refl (inr (ip_back cpu next))) (plain opcode cpu next _ refl refl refl (inl refl))
 
 move_plain : (opcode : ℕ) (cpu : Cpu) (instr : Instr) (next index : ℕ) (size : Size) (value : ℕ) → IsOrderly opcode cpu next (move_to cpu instr next index size value)
 move_plain opcode cpu instr next index size value =
-    either-plan (is_x_indirect instr) _ _ (IsOrderly opcode cpu next) (plain opcode cpu next _ refl refl refl) (plain opcode cpu next _ refl refl refl)
+    either-plan (is_x_indirect instr) _ _ (IsOrderly opcode cpu next)
+    (plain opcode cpu next _ refl refl refl (inr (ip_back cpu next))) (plain opcode cpu next _ refl refl refl (inl refl))
 
 -- a plan that goes to an even address
 even-result : (opcode : ℕ) (cpu : Cpu) (next target : ℕ) (plan : Plan) (b : Bool) → nat_eq (target % 2) 0 ≡ b → is_jump opcode ≡ true → plan.cpu.ip ≡ target → plan.cpu.flags ≡ cpu.flags → plan.request ≡ Nothing
-    → IfOk {T = Plan} {E = Cause} (cond b (Ok plan) (Err Align)) (IsOrderly opcode cpu next)
-even-result opcode cpu next target plan true is jumps ip flags request =
+    → (plan.store ≡ None) ⊎ (put_back plan.cpu cpu.ip (register cpu 0) ≡ cpu) → IfOk {T = Plan} {E = Cause} (cond b (Ok plan) (Err Align)) (IsOrderly opcode cpu next)
+even-result opcode cpu next target plan true is jumps ip flags request back =
     let even : target % 2 ≡ 0 = grind (arith, nat_tests) in
-    record { ip = inl jumps; even = inr (rw ip even); flags = inr flags; request = inl request }
-even-result opcode cpu next target plan false is jumps ip flags request = tt
+    record { ip = inl jumps; even = inr (rw ip even); flags = inr flags; request = inl request; back = back }
+even-result opcode cpu next target plan false is jumps ip flags request back = tt
 
 -- ---- the effects
 
 break_keeps : {opcode : ℕ} → Keeps opcode break
 break_keeps = record {
   holds = λ cpu segments instr next.
-      either-result (nat_eq instr.operands 1) _ _ (IsOrderly _ cpu next) (plain _ cpu next _ refl refl refl)
-      (either-result (nat_eq instr.operands 5) _ _ (IsOrderly _ cpu next) (record { ip = inr refl; even = inl refl; flags = inr refl; request = inr refl })
-      (either-result (list_any (nat_eq instr.operands) (3 ∷ 4 ∷ 6 ∷ [])) _ _ (IsOrderly _ cpu next) (plain _ cpu next _ refl refl refl) tt));
+      either-result (nat_eq instr.operands 1) _ _ (IsOrderly _ cpu next) (plain _ cpu next _ refl refl refl (inl refl))
+      (either-result (nat_eq instr.operands 5) _ _ (IsOrderly _ cpu next) (record { ip = inr refl; even = inl refl; flags = inr refl; request = inr refl; back = inl refl })
+      (either-result (list_any (nat_eq instr.operands) (3 ∷ 4 ∷ 6 ∷ [])) _ _ (IsOrderly _ cpu next) (plain _ cpu next _ refl refl refl (inl refl)) tt));
 }
 
 jump_keeps : Keeps 0x01 jump
@@ -87,16 +101,16 @@ jump_keeps = record {
   holds = λ cpu segments instr next.
       either-result (is_taken cpu (is_set instr.operands 7) (is_set instr.operands 6)) _ _ (IsOrderly 0x01 cpu next)
       (after-part (target_of cpu segments instr next) (λ target. jumps cpu target) (IsOrderly 0x01 cpu next)
-      (λ target. even-result 0x01 cpu next target (goes_on cpu target Nothing) (nat_eq (target % 2) 0) refl refl refl refl refl))
-      (plain 0x01 cpu next _ refl refl refl);
+      (λ target. even-result 0x01 cpu next target (goes_on cpu target Nothing) (nat_eq (target % 2) 0) refl refl refl refl refl (inl refl)))
+      (plain 0x01 cpu next _ refl refl refl (inl refl));
 }
 
 jump_8_keeps : Keeps 0x02 jump_8
 jump_8_keeps = record {
   holds = λ cpu segments instr next.
       either-result (is_taken cpu (m7 instr.mods) (m6 instr.mods)) _ _ (IsOrderly 0x02 cpu next)
-      (even-result 0x02 cpu next _ (goes_on cpu _ Nothing) _ refl refl refl refl refl)
-      (plain 0x02 cpu next _ refl refl refl);
+      (even-result 0x02 cpu next _ (goes_on cpu _ Nothing) _ refl refl refl refl refl (inl refl))
+      (plain 0x02 cpu next _ refl refl refl (inl refl));
 }
 
 call_keeps : Keeps 0x03 call
@@ -104,20 +118,20 @@ call_keeps = record {
   holds = λ cpu segments instr next.
       after-part (target_of cpu segments instr next) _ (IsOrderly 0x03 cpu next)
       (λ target. either-result (is_set instr.operands 5) _ _ (IsOrderly 0x03 cpu next)
-      (record { ip = inr refl; even = inl refl; flags = inr refl; request = inr refl })
-      (even-result 0x03 cpu next target _ (nat_eq (target % 2) 0) refl refl refl refl refl));
+      (record { ip = inr refl; even = inl refl; flags = inr refl; request = inr refl; back = inl refl })
+      (even-result 0x03 cpu next target _ (nat_eq (target % 2) 0) refl refl refl refl refl (inr (top_back cpu target _))));
 }
 
 return_keeps : Keeps 0x04 return
 return_keeps = record {
   holds = λ cpu segments instr next.
       after-part (load segments (register cpu 0) Quadword) _ (IsOrderly 0x04 cpu next)
-      (λ target. even-result 0x04 cpu next target _ (nat_eq (target % 2) 0) refl refl refl refl refl);
+      (λ target. even-result 0x04 cpu next target _ (nat_eq (target % 2) 0) refl refl refl refl refl (inl refl));
 }
 
 -- C takes the outcome, and the code goes on
 condition : (opcode : ℕ) (cpu : Cpu) (next : ℕ) (c : Bool) → sets_flags opcode ≡ true → IsOrderly opcode cpu next (with_condition cpu next c)
-condition opcode cpu next c sets = record { ip = inr refl; even = inl refl; flags = inl sets; request = inl refl }
+condition opcode cpu next c sets = record { ip = inr refl; even = inl refl; flags = inl sets; request = inl refl; back = inl refl }
 
 compare_keeps : (opcode : ℕ) (relation : Relation) → sets_flags opcode ≡ true → Keeps opcode (compare relation)
 compare_keeps opcode relation sets = record {
@@ -173,22 +187,23 @@ move_relative_keeps : {opcode : ℕ} → Keeps opcode move_relative
 move_relative_keeps = record { holds = λ cpu segments instr next. move_plain _ cpu instr next 2 Quadword _ }
 
 load_special_keeps : Keeps 0x29 load_special
-load_special_keeps = record { holds = λ cpu segments instr next. record { ip = inr refl; even = inl refl; flags = inl refl; request = inl refl } }
+load_special_keeps = record { holds = λ cpu segments instr next. record { ip = inr refl; even = inl refl; flags = inl refl; request = inl refl; back = inl refl } }
 
 store_special_keeps : {opcode : ℕ} → Keeps opcode store_special
-store_special_keeps = record { holds = λ cpu segments instr next. plain _ cpu next _ refl refl refl }
+store_special_keeps = record { holds = λ cpu segments instr next. plain _ cpu next _ refl refl refl (inl refl) }
 
 push_keeps : {opcode : ℕ} (size : Size) → Keeps opcode (push size)
 push_keeps size = record {
   holds = λ cpu segments instr next.
-      after-part (push_operand size cpu segments instr) _ (IsOrderly _ cpu next) (λ value. plain _ cpu next _ refl refl refl);
+      after-part (push_operand size cpu segments instr) _ (IsOrderly _ cpu next) (λ value. plain _ cpu next _ refl refl refl (inr (top_back cpu next _)));
 }
 
 pop_keeps : {opcode : ℕ} (size : Size) → Keeps opcode (pop size)
 pop_keeps size = record {
   holds = λ cpu segments instr next.
       after-part (load segments (register cpu 0) size) _ (IsOrderly _ cpu next)
-      (λ value. either-plan (is_x_indirect instr) _ _ (IsOrderly _ cpu next) (plain _ cpu next _ refl refl refl) (plain _ cpu next _ refl refl refl));
+      (λ value. either-plan (is_x_indirect instr) _ _ (IsOrderly _ cpu next)
+      (plain _ cpu next _ refl refl refl (inr (top_back cpu next _))) (plain _ cpu next _ refl refl refl (inl refl)));
 }
 
 push_operation_keeps : {opcode : ℕ} → Keeps opcode push_operation

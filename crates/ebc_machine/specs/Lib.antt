@@ -3,6 +3,8 @@ pub mod Arithmetic
 pub mod Plan
 pub mod Operands
 pub mod Effects
+pub mod Action
 pub mod Outcome
+pub mod PutBack
 pub mod Step
 pub mod StepLaws

@@ -14,6 +14,18 @@ pub struct Cpu {
     pub ip: u64,
 }
 
+impl Cpu {
+    ghost use Rattle.ebc_machine.specs.PutBack.{put_back};
+
+    /// Puts IP and R0, the stack pointer, back to what they were.
+    pub(crate) fn put_back(&mut self, ip: u64, top: u64)
+        ensures { self.new ≡ put_back self.old ip top }
+    {
+        self.ip = ip;
+        self.r[0] = top;
+    }
+}
+
 /// How a step ended.
 #[derive(Clone, Copy, Debug, PartialEq, Eq)]
 pub enum StepOut {

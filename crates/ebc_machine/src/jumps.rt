@@ -1,4 +1,4 @@
-ghost use Rattle.std.specs.Prelude.{◌≡◌, ◌<◌, ◌^◌, []};
+ghost use Rattle.std.specs.Prelude.{◌≡◌, ◌<◌, ◌^◌, [], OnErr};
 ghost use Rattle.ebc_decode.specs.Columns.{is_set, jump_32};
 ghost use Rattle.ebc_machine.specs.Plan.{plan_result};
 ghost use Rattle.ebc_machine.specs.Effects.{is_taken, base_of, plain_target, target_of, break, jump, jump_8, call, return_plan};
@@ -15,8 +15,10 @@ use guest_memory::GuestMem;
 const VERSION: u64 = 0x1_0000;
 
 /// Executes BREAK.
+#[inline(always)]
 pub fn run_break(cpu: &mut Cpu, instr: &Instr, next: u64) -> Result<Rest, Cause>
-    ensures { plan_result cpu.new result ≡ break cpu.old [] instr.now next }
+    ensures plan { plan_result cpu.new result ≡ break cpu.old [] instr.now next }
+    ensures kept { OnErr result (cpu.new ≡ cpu.old) }
 {
     match instr.operands {
         1 => Ok(to_register(cpu, next, 7, VERSION)),
@@ -30,6 +32,7 @@ pub fn run_break(cpu: &mut Cpu, instr: &Instr, next: u64) -> Result<Rest, Cause>
 }
 
 /// Executes JMP with 32 or 64 bits.
+#[inline(always)]
 pub fn run_jump<M: GuestMem>(
     cpu: &mut Cpu,
     mem: &M,
@@ -37,7 +40,8 @@ pub fn run_jump<M: GuestMem>(
     next: u64,
 ) -> Result<Rest, Cause>
     requires { instr.now.first < 256 ^ jump_32 instr.now.mods 0 }
-    ensures { plan_result cpu.new result ≡ jump cpu.old (M.segments mem.now) instr.now next }
+    ensures plan { plan_result cpu.new result ≡ jump cpu.old (M.segments mem.now) instr.now next }
+    ensures kept { OnErr result (cpu.new ≡ cpu.old) }
 {
     let conditional = instr.operands & 0x80 != 0;
     let wanted = instr.operands & 0x40 != 0;
@@ -50,8 +54,10 @@ pub fn run_jump<M: GuestMem>(
 }
 
 /// Executes JMP8.
+#[inline(always)]
 pub fn run_jump_8(cpu: &mut Cpu, instr: &Instr, next: u64) -> Result<Rest, Cause>
-    ensures { plan_result cpu.new result ≡ jump_8 cpu.old [] instr.now next }
+    ensures plan { plan_result cpu.new result ≡ jump_8 cpu.old [] instr.now next }
+    ensures kept { OnErr result (cpu.new ≡ cpu.old) }
 {
     if is_taken(cpu, has_m7(instr), has_m6(instr)) {
         let units = i64::from(instr.operands.cast_signed());
@@ -62,6 +68,7 @@ pub fn run_jump_8(cpu: &mut Cpu, instr: &Instr, next: u64) -> Result<Rest, Cause
 }
 
 /// Executes CALL.
+#[inline(always)]
 pub fn run_call<M: GuestMem>(
     cpu: &mut Cpu,
     mem: &M,
@@ -69,7 +76,8 @@ pub fn run_call<M: GuestMem>(
     next: u64,
 ) -> Result<Rest, Cause>
     requires { instr.now.first < 256 ^ jump_32 instr.now.mods 0 }
-    ensures { plan_result cpu.new result ≡ call cpu.old (M.segments mem.now) instr.now next }
+    ensures plan { plan_result cpu.new result ≡ call cpu.old (M.segments mem.now) instr.now next }
+    ensures kept { OnErr result (cpu.new ≡ cpu.old) }
 {
     let target = target_of(cpu, mem, instr, next)?;
     if instr.operands & 0x20 != 0 {
@@ -89,15 +97,19 @@ pub fn run_call<M: GuestMem>(
 }
 
 /// Executes RET.
+#[inline(always)]
 pub fn run_return<M: GuestMem>(cpu: &mut Cpu, mem: &M) -> Result<Rest, Cause>
-    ensures { plan_result cpu.new result ≡ return_plan cpu.old (M.segments mem.now) }
+    ensures plan { plan_result cpu.new result ≡ return_plan cpu.old (M.segments mem.now) }
+    ensures kept { OnErr result (cpu.new ≡ cpu.old) }
 {
     let target = load(mem, cpu.r[0], Size::Quadword)?;
+    let rest = jumps(cpu, target)?;
     cpu.r[0] = cpu.r[0].wrapping_add(16);
-    jumps(cpu, target)
+    Ok(rest)
 }
 
 /// Whether a jump is taken.
+#[inline(always)]
 fn is_taken(cpu: &Cpu, conditional: bool, wanted: bool) -> bool
     ensures { result ≡ is_taken cpu.now conditional wanted }
 {
@@ -109,6 +121,7 @@ fn is_taken(cpu: &Cpu, conditional: bool, wanted: bool) -> bool
 }
 
 /// The target of JMP and CALL.
+#[inline(always)]
 fn target_of<M: GuestMem>(cpu: &Cpu, mem: &M, instr: &Instr, next: u64) -> Result<u64, Cause>
     requires { instr.now.first < 256 ^ jump_32 instr.now.mods 0 }
     ensures { result ≡ target_of cpu.now (M.segments mem.now) instr.now next }
@@ -122,6 +135,7 @@ fn target_of<M: GuestMem>(cpu: &Cpu, mem: &M, instr: &Instr, next: u64) -> Resul
 }
 
 /// The target of JMP and CALL before the address after the instruction is added.
+#[inline(always)]
 fn plain_target<M: GuestMem>(cpu: &Cpu, mem: &M, instr: &Instr) -> Result<u64, Cause>
     requires { instr.now.first < 256 ^ jump_32 instr.now.mods 0 }
     ensures { result ≡ plain_target cpu.now (M.segments mem.now) instr.now }
@@ -139,6 +153,7 @@ fn plain_target<M: GuestMem>(cpu: &Cpu, mem: &M, instr: &Instr) -> Result<u64, C
 }
 
 /// The base of a 32-bit target, for which R0 counts as 0.
+#[inline(always)]
 fn base_of(cpu: &Cpu, instr: &Instr) -> u64
     ensures { result ≡ base_of cpu.now instr.now }
 {

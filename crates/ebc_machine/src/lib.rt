@@ -3,13 +3,18 @@
 //! `Cpu` has the registers, `step` runs the instruction at IP, and `StepOut` says how it ended.
 //! `laws` has what holds of every step.
 //!
-//! `run` fetches and decodes the instruction and chooses its function by the opcode: these are in
-//! `jumps`, `operations` (comparisons and arithmetic) and `moves`. Such a function works on a copy
-//! of the registers and answers what is left to do: at most one write, and a request to the
-//! firmware. Only then does `step` write to memory and replace the registers, so a trap leaves
-//! both as they were.
+//! `run` fetches and decodes the instruction; `action` says by the opcode what it does. The
+//! functions that do it are in `jumps`, `operations` (comparisons and arithmetic) and `moves`. Such
+//! a function first reads all that it needs, where it may trap, then changes the registers, and
+//! answers what is left to do: at most one write, and a request to the firmware. If the write is
+//! refused, `step` puts IP and R0 back, since an instruction that writes changes no other register.
+//! So a trap leaves registers and memory as they were, and no step copies all registers.
+//!
+//! Functions are `inline(always)` so that a step is one piece of machine code, in which no answer
+//! of theirs goes through memory.
 #![tactic(auto)]
 
+mod action;
 mod arithmetic;
 mod cpu;
 mod jumps;

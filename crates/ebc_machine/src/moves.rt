@@ -1,4 +1,4 @@
-ghost use Rattle.std.specs.Prelude.{◌≡◌, ◌<◌, ◌^◌, ◌/◌, ◌%◌, [], IsTrue};
+ghost use Rattle.std.specs.Prelude.{◌≡◌, ◌<◌, ◌^◌, ◌/◌, ◌%◌, [], IsTrue, OnErr};
 ghost use Rattle.std.specs.Int.{cast_unsigned, w64};
 ghost use Rattle.byteorder.specs.Endian.{twos_complement};
 ghost use Rattle.ebc_decode.specs.Columns.{on_m7, on_m6, on_bit, width};
@@ -29,14 +29,16 @@ pub fn run_move<M: GuestMem>(
     requires index { IsTrue (is_index_size index) }
     requires first { instr.now.first < 256 ^ on_m7 index instr.now.mods 0 }
     requires second { instr.now.second < 256 ^ on_m6 index instr.now.mods 0 }
-    ensures { plan_result cpu.new result
+    ensures plan { plan_result cpu.new result
         ≡ move size index cpu.old (M.segments mem.now) instr.now next }
+    ensures kept { OnErr result (cpu.new ≡ cpu.old) }
 {
     let value = move_operand(cpu, mem, instr, size, index)?;
     Ok(move_to(cpu, instr, next, index, size, value))
 }
 
 /// Operand 2 of a move.
+#[inline(always)]
 fn move_operand<M: GuestMem>(
     cpu: &Cpu,
     mem: &M,
@@ -57,6 +59,7 @@ fn move_operand<M: GuestMem>(
 }
 
 /// Executes a move of 8 bytes, in which the index of a direct operand 2 is a signed number.
+#[inline(always)]
 pub fn run_move_signed<M: GuestMem>(
     cpu: &mut Cpu,
     mem: &M,
@@ -67,14 +70,16 @@ pub fn run_move_signed<M: GuestMem>(
     requires index { IsTrue (is_index_size index) }
     requires first { instr.now.first < 256 ^ on_m7 index instr.now.mods 0 }
     requires second { instr.now.second < 256 ^ on_m6 index instr.now.mods 0 }
-    ensures { plan_result cpu.new result
+    ensures plan { plan_result cpu.new result
         ≡ move_signed index cpu.old (M.segments mem.now) instr.now next }
+    ensures kept { OnErr result (cpu.new ≡ cpu.old) }
 {
     let value = signed_move_operand(cpu, mem, instr, index)?;
     Ok(move_to(cpu, instr, next, index, Size::Quadword, value))
 }
 
 /// Operand 2 of a move whose direct index is a signed number.
+#[inline(always)]
 fn signed_move_operand<M: GuestMem>(
     cpu: &Cpu,
     mem: &M,
@@ -93,10 +98,12 @@ fn signed_move_operand<M: GuestMem>(
 }
 
 /// Executes MOVI.
+#[inline(always)]
 pub fn run_move_immediate(cpu: &mut Cpu, instr: &Instr, next: u64) -> Result<Rest, Cause>
     requires first { instr.now.first < 256 ^ on_bit 6 2 0 instr.now.operands }
     requires second { instr.now.second < 256 ^ width instr.now.mods 0 }
-    ensures { plan_result cpu.new result ≡ move_immediate cpu.old [] instr.now next }
+    ensures plan { plan_result cpu.new result ≡ move_immediate cpu.old [] instr.now next }
+    ensures kept { OnErr result (cpu.new ≡ cpu.old) }
 {
     let value = signed(instr.second, immediate_size(instr));
     Ok(move_to(
@@ -110,20 +117,24 @@ pub fn run_move_immediate(cpu: &mut Cpu, instr: &Instr, next: u64) -> Result<Res
 }
 
 /// Executes MOVIn.
+#[inline(always)]
 pub fn run_move_natural(cpu: &mut Cpu, instr: &Instr, next: u64) -> Result<Rest, Cause>
     requires first { instr.now.first < 256 ^ on_bit 6 2 0 instr.now.operands }
     requires second { instr.now.second < 256 ^ width instr.now.mods 0 }
-    ensures { plan_result cpu.new result ≡ move_natural cpu.old [] instr.now next }
+    ensures plan { plan_result cpu.new result ≡ move_natural cpu.old [] instr.now next }
+    ensures kept { OnErr result (cpu.new ≡ cpu.old) }
 {
     let value = natural(instr.second, immediate_size(instr));
     Ok(move_to(cpu, instr, next, 2, Size::Quadword, value.cast_unsigned()))
 }
 
 /// Executes MOVREL.
+#[inline(always)]
 pub fn run_move_relative(cpu: &mut Cpu, instr: &Instr, next: u64) -> Result<Rest, Cause>
     requires first { instr.now.first < 256 ^ on_bit 6 2 0 instr.now.operands }
     requires second { instr.now.second < 256 ^ width instr.now.mods 0 }
-    ensures { plan_result cpu.new result ≡ move_relative cpu.old [] instr.now next }
+    ensures plan { plan_result cpu.new result ≡ move_relative cpu.old [] instr.now next }
+    ensures kept { OnErr result (cpu.new ≡ cpu.old) }
 {
     let by = signed(instr.second, immediate_size(instr));
     let value = next.wrapping_add_signed(by);
@@ -155,16 +166,20 @@ fn immediate_move_size(instr: &Instr) -> Size
 }
 
 /// Executes LOADSP.
+#[inline(always)]
 pub fn run_load_special(cpu: &mut Cpu, instr: &Instr, next: u64) -> Result<Rest, Cause>
-    ensures { plan_result cpu.new result ≡ load_special cpu.old [] instr.now next }
+    ensures plan { plan_result cpu.new result ≡ load_special cpu.old [] instr.now next }
+    ensures kept { OnErr result (cpu.new ≡ cpu.old) }
 {
     cpu.flags = cpu.r[y_of(instr)] % 4;
     Ok(goes_on(cpu, next, Request::Nothing))
 }
 
 /// Executes STORESP.
+#[inline(always)]
 pub fn run_store_special(cpu: &mut Cpu, instr: &Instr, next: u64) -> Result<Rest, Cause>
-    ensures { plan_result cpu.new result ≡ store_special cpu.old [] instr.now next }
+    ensures plan { plan_result cpu.new result ≡ store_special cpu.old [] instr.now next }
+    ensures kept { OnErr result (cpu.new ≡ cpu.old) }
 {
     let value = if y_of(instr) == 0 { cpu.flags } else { next };
     Ok(to_register(cpu, next, x_of(instr), value))
@@ -180,7 +195,8 @@ pub fn run_push<M: GuestMem>(
     size: Size,
 ) -> Result<Rest, Cause>
     requires { instr.now.first < 256 ^ on_m7 2 instr.now.mods 0 }
-    ensures { plan_result cpu.new result ≡ push size cpu.old (M.segments mem.now) instr.now next }
+    ensures plan { plan_result cpu.new result ≡ push size cpu.old (M.segments mem.now) instr.now next }
+    ensures kept { OnErr result (cpu.new ≡ cpu.old) }
 {
     let value = push_operand(cpu, mem, instr, size)?;
     let at = cpu.r[0].wrapping_sub(u64::from(size.byte_count()));
@@ -189,6 +205,7 @@ pub fn run_push<M: GuestMem>(
 }
 
 /// The value of operand 1 that PUSH puts on the stack.
+#[inline(always)]
 fn push_operand<M: GuestMem>(cpu: &Cpu, mem: &M, instr: &Instr, size: Size) -> Result<u64, Cause>
     requires { instr.now.first < 256 ^ 2 }
     ensures { result ≡ push_operand size cpu.now (M.segments mem.now) instr.now }
@@ -211,7 +228,8 @@ pub fn run_pop<M: GuestMem>(
 ) -> Result<Rest, Cause>
     requires size { IsTrue (is_index_size (byte_count size)) }
     requires first { instr.now.first < 256 ^ on_m7 2 instr.now.mods 0 }
-    ensures { plan_result cpu.new result ≡ pop size cpu.old (M.segments mem.now) instr.now next }
+    ensures plan { plan_result cpu.new result ≡ pop size cpu.old (M.segments mem.now) instr.now next }
+    ensures kept { OnErr result (cpu.new ≡ cpu.old) }
 {
     let value = load(mem, cpu.r[0], size)?;
     cpu.r[0] = cpu.r[0].wrapping_add(u64::from(size.byte_count()));
@@ -219,6 +237,7 @@ pub fn run_pop<M: GuestMem>(
 }
 
 /// Puts the value from the stack into operand 1 of POP.
+#[inline(always)]
 fn pop_to(cpu: &mut Cpu, instr: &Instr, next: u64, size: Size, value: u64) -> Rest
     requires size { IsTrue (is_index_size (byte_count size)) }
     requires first { instr.now.first < 256 ^ 2 }

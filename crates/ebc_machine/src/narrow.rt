@@ -6,6 +6,7 @@ use fw_types::Cause;
 
 impl Operation {
     /// The 32-bit result on operands 1 and 2. The cause of a trap is `Divide`, if it divides by 0.
+    #[inline(always)]
     pub fn of_32_bits(self, a: u32, b: u32) -> Result<u32, Cause>
         ensures { result ≡ result_of self false a b }
     {
@@ -52,6 +53,7 @@ impl Operation {
 
 impl Relation {
     /// Whether operand 1 and operand 2 of 32 bits are in the relation.
+    #[inline(always)]
     pub fn of_32_bits(self, a: u32, b: u32) -> bool
         ensures { result ≡ holds self false a b }
     {

@@ -1,4 +1,4 @@
-ghost use Rattle.std.specs.Prelude.{◌≡◌, ◌<◌, ◌^◌, IsTrue, IfOk};
+ghost use Rattle.std.specs.Prelude.{◌≡◌, ◌<◌, ◌^◌, IsTrue, IfOk, OnErr};
 ghost use Rattle.byteorder.specs.Endian.{twos_complement};
 ghost use Rattle.ebc_decode.specs.Columns.{is_set, m6, m7};
 ghost use Rattle.ebc_decode.specs.NaturalIndex.{is_index_size};
@@ -81,6 +81,7 @@ pub fn signed(raw: u64, size: u8) -> i64
 }
 
 /// Reads a number from memory. The cause of a trap is `Memory`, if no segment has all its bytes.
+#[inline(always)]
 pub fn load<M: GuestMem>(mem: &M, at: u64, size: Size) -> Result<u64, Cause>
     ensures value { result ≡ load (M.segments mem.now) at size }
     ensures fits { IfOk result (λ value. value < 256 ^ byte_count size) }
@@ -92,6 +93,7 @@ pub fn load<M: GuestMem>(mem: &M, at: u64, size: Size) -> Result<u64, Cause>
 }
 
 /// The address of operand 1 in memory, with an index of `index` bytes.
+#[inline(always)]
 pub fn x_address(cpu: &Cpu, instr: &Instr, index: u8) -> u64
     requires size { IsTrue (is_index_size index) }
     requires fits { instr.now.first < 256 ^ index }
@@ -101,6 +103,7 @@ pub fn x_address(cpu: &Cpu, instr: &Instr, index: u8) -> u64
 }
 
 /// The address of operand 2 in memory, with an index of `index` bytes.
+#[inline(always)]
 pub fn y_address(cpu: &Cpu, instr: &Instr, index: u8) -> u64
     requires size { IsTrue (is_index_size index) }
     requires fits { instr.now.second < 256 ^ index }
@@ -110,6 +113,7 @@ pub fn y_address(cpu: &Cpu, instr: &Instr, index: u8) -> u64
 }
 
 /// Operand 1 of an operation.
+#[inline(always)]
 pub fn operand_1<M: GuestMem>(cpu: &Cpu, mem: &M, instr: &Instr) -> Result<u64, Cause>
     ensures { result ≡ operand_1 cpu.now (M.segments mem.now) instr.now }
 {
@@ -122,6 +126,7 @@ pub fn operand_1<M: GuestMem>(cpu: &Cpu, mem: &M, instr: &Instr) -> Result<u64, 
 }
 
 /// Operand 2 of an operation.
+#[inline(always)]
 pub fn operand_2<M: GuestMem>(cpu: &Cpu, mem: &M, instr: &Instr) -> Result<u64, Cause>
     requires { instr.now.second < 256 ^ 2 }
     ensures { result ≡ operand_2 cpu.now (M.segments mem.now) instr.now }
@@ -134,6 +139,7 @@ pub fn operand_2<M: GuestMem>(cpu: &Cpu, mem: &M, instr: &Instr) -> Result<u64, 
 }
 
 /// Lets the code go on at an address, with a request.
+#[inline(always)]
 pub fn goes_on(cpu: &mut Cpu, ip: u64, request: Request) -> Rest
     ensures { with_rest cpu.new result ≡ goes_on cpu.old ip request }
 {
@@ -145,6 +151,7 @@ pub fn goes_on(cpu: &mut Cpu, ip: u64, request: Request) -> Rest
 }
 
 /// Puts a value into a register.
+#[inline(always)]
 pub fn to_register(cpu: &mut Cpu, next: u64, register: usize, value: u64) -> Rest
     requires { register < 8 }
     ensures { with_rest cpu.new result ≡ to_register cpu.old next register value }
@@ -154,6 +161,7 @@ pub fn to_register(cpu: &mut Cpu, next: u64, register: usize, value: u64) -> Res
 }
 
 /// Leaves a write to be done.
+#[inline(always)]
 pub fn to_memory(cpu: &mut Cpu, next: u64, store: Store) -> Rest
     ensures { with_rest cpu.new result ≡ to_memory cpu.old next store.at store.size store.value }
 {
@@ -165,6 +173,7 @@ pub fn to_memory(cpu: &mut Cpu, next: u64, store: Store) -> Rest
 }
 
 /// Puts the result of an operation into operand 1.
+#[inline(always)]
 pub fn result_to(cpu: &mut Cpu, instr: &Instr, next: u64, value: u64) -> Rest
     ensures { with_rest cpu.new result ≡ result_to cpu.old instr.now next value }
 {
@@ -179,6 +188,7 @@ pub fn result_to(cpu: &mut Cpu, instr: &Instr, next: u64, value: u64) -> Rest
 }
 
 /// Puts a value into operand 1 of a move, with an index of `index` bytes.
+#[inline(always)]
 pub fn move_to(cpu: &mut Cpu, instr: &Instr, next: u64, index: u8, size: Size, value: u64) -> Rest
     requires size { IsTrue (is_index_size index) }
     requires fits { instr.now.first < 256 ^ index }
@@ -193,8 +203,10 @@ pub fn move_to(cpu: &mut Cpu, instr: &Instr, next: u64, index: u8, size: Size, v
 }
 
 /// Jumps to a target. The cause of a trap is `Align`, if the target is odd.
+#[inline(always)]
 pub fn jumps(cpu: &mut Cpu, target: u64) -> Result<Rest, Cause>
-    ensures { plan_result cpu.new result ≡ jumps cpu.old target }
+    ensures plan { plan_result cpu.new result ≡ jumps cpu.old target }
+    ensures kept { OnErr result (cpu.new ≡ cpu.old) }
 {
     if target % 2 == 0 {
         Ok(goes_on(cpu, target, Request::Nothing))
@@ -211,6 +223,7 @@ pub fn is_c(cpu: &Cpu) -> bool
 }
 
 /// Puts the outcome of a comparison into the condition flag C.
+#[inline(always)]
 pub fn with_condition(cpu: &mut Cpu, next: u64, c: bool) -> Rest
     ensures { with_rest cpu.new result ≡ with_condition cpu.old next c }
 {

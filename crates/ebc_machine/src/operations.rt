@@ -1,4 +1,4 @@
-ghost use Rattle.std.specs.Prelude.{◌≡◌, ◌<◌, ◌^◌};
+ghost use Rattle.std.specs.Prelude.{◌≡◌, ◌<◌, ◌^◌, OnErr};
 ghost use Rattle.std.specs.Int.{cast_unsigned, w64};
 ghost use Rattle.byteorder.specs.Endian.{twos_complement};
 ghost use Rattle.ebc_decode.specs.Columns.{on_bit, two_or_four};
@@ -28,8 +28,9 @@ pub fn run_compare<M: GuestMem>(
     relation: Relation,
 ) -> Result<Rest, Cause>
     requires { instr.now.second < 256 ^ 2 }
-    ensures { plan_result cpu.new result
+    ensures plan { plan_result cpu.new result
         ≡ compare relation cpu.old (M.segments mem.now) instr.now next }
+    ensures kept { OnErr result (cpu.new ≡ cpu.old) }
 {
     let b = operand_2(cpu, mem, instr)?;
     let a = cpu.r[x_of(instr)];
@@ -47,8 +48,9 @@ pub fn run_compare_immediate<M: GuestMem>(
 ) -> Result<Rest, Cause>
     requires first { instr.now.first < 256 ^ on_bit 4 2 0 instr.now.operands }
     requires second { instr.now.second < 256 ^ two_or_four instr.now.mods 0 }
-    ensures { plan_result cpu.new result
+    ensures plan { plan_result cpu.new result
         ≡ compare_immediate relation cpu.old (M.segments mem.now) instr.now next }
+    ensures kept { OnErr result (cpu.new ≡ cpu.old) }
 {
     let a = compare_operand(cpu, mem, instr)?;
     let b = immediate(instr);
@@ -65,8 +67,9 @@ pub fn run_unary<M: GuestMem>(
     operation: Operation,
 ) -> Result<Rest, Cause>
     requires { instr.now.second < 256 ^ 2 }
-    ensures { plan_result cpu.new result
+    ensures plan { plan_result cpu.new result
         ≡ unary operation cpu.old (M.segments mem.now) instr.now next }
+    ensures kept { OnErr result (cpu.new ≡ cpu.old) }
 {
     let b = operand_2(cpu, mem, instr)?;
     let value = result_of(operation, has_m6(instr), 0, b)?;
@@ -83,8 +86,9 @@ pub fn run_binary<M: GuestMem>(
     operation: Operation,
 ) -> Result<Rest, Cause>
     requires { instr.now.second < 256 ^ 2 }
-    ensures { plan_result cpu.new result
+    ensures plan { plan_result cpu.new result
         ≡ binary operation cpu.old (M.segments mem.now) instr.now next }
+    ensures kept { OnErr result (cpu.new ≡ cpu.old) }
 {
     let a = operand_1(cpu, mem, instr)?;
     let b = operand_2(cpu, mem, instr)?;
@@ -93,6 +97,7 @@ pub fn run_binary<M: GuestMem>(
 }
 
 /// Whether the relation holds between the lowest 64 or 32 bits of two operands.
+#[inline(always)]
 fn holds(relation: Relation, wide: bool, a: u64, b: u64) -> bool
     ensures { result
         ≡ holds relation wide (low (operation_size wide) a) (low (operation_size wide) b) }
@@ -108,6 +113,7 @@ fn holds(relation: Relation, wide: bool, a: u64, b: u64) -> bool
 }
 
 /// Computes an operation on the lowest 64 or 32 bits of two operands.
+#[inline(always)]
 fn result_of(operation: Operation, wide: bool, a: u64, b: u64) -> Result<u64, Cause>
     ensures { result
         ≡ result_of operation wide (low (operation_size wide) a) (low (operation_size wide) b) }
@@ -126,6 +132,7 @@ fn result_of(operation: Operation, wide: bool, a: u64, b: u64) -> Result<u64, Ca
 }
 
 /// Operand 1 of a comparison with an immediate.
+#[inline(always)]
 fn compare_operand<M: GuestMem>(cpu: &Cpu, mem: &M, instr: &Instr) -> Result<u64, Cause>
     requires { instr.now.first < 256 ^ on_bit 4 2 0 instr.now.operands }
     ensures { result ≡ compare_operand cpu.now (M.segments mem.now) instr.now }
@@ -138,6 +145,7 @@ fn compare_operand<M: GuestMem>(cpu: &Cpu, mem: &M, instr: &Instr) -> Result<u64
 }
 
 /// The immediate of a comparison, with its sign extended.
+#[inline(always)]
 fn immediate(instr: &Instr) -> u64
     requires { instr.now.second < 256 ^ two_or_four instr.now.mods 0 }
     ensures { result

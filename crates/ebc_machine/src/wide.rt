@@ -6,6 +6,7 @@ use fw_types::Cause;
 
 impl Operation {
     /// The 64-bit result on operands 1 and 2. The cause of a trap is `Divide`, if it divides by 0.
+    #[inline(always)]
     pub fn of_64_bits(self, a: u64, b: u64) -> Result<u64, Cause>
         ensures { result ≡ result_of self true a b }
     {
@@ -54,6 +55,7 @@ impl Operation {
 
 impl Relation {
     /// Whether operand 1 and operand 2 of 64 bits are in the relation.
+    #[inline(always)]
     pub fn of_64_bits(self, a: u64, b: u64) -> bool
         ensures { result ≡ holds self true a b }
     {
