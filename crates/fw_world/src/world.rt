@@ -1,4 +1,4 @@
-ghost use Rattle.std.specs.Prelude.{◌≡◌, ◌+◌, ◌^◌, ◌<◌, ◌≤◌, false, true, nat_le, IfOk, OnOk, Ok, is_some, length, replicate, if◌then◌else◌};
+ghost use Rattle.std.specs.Prelude.{◌≡◌, ◌+◌, ◌^◌, ◌<◌, ◌≤◌, [], false, true, nat_le, IfOk, OnOk, Ok, is_some, length, replicate, if◌then◌else◌};
 ghost use Rattle.guest_memory.specs.Segment.{is_block};
 ghost use Rattle.guest_memory.specs.GuestMemory.{bytes_of, is_readable, is_writable_range, put_bytes};
 ghost use Rattle.handle_db.specs.Database.{Gives as GivesDb, interface_of, is_live};
@@ -17,6 +17,7 @@ ghost use Rattle.world_model.specs.Stacks.{frame, has_stack, is_marked_stack, st
 ghost use Rattle.world_model.specs.Units.{units_aside, units_capped, units_returned, units_spent};
 ghost use Rattle.world_model.specs.Events.{command_begun, event_begun, event_ended, events_taken, next_serial};
 ghost use Rattle.world_model.specs.Marks.{committed, depth, marked_stacks, marked, rolled_back, stacks};
+ghost use Rattle.world_model.specs.CommandPath.{has_no_path, path_cleared, path_room, path_set};
 ghost use Rattle.world_model.specs.Kept.{IsKept};
 ghost use Rattle.world_model.specs.Opening.{opening};
 ghost use Rattle.soft_part.specs.Answers.{AsBefore, AsBeforeFull, AsBeforeRefusal};
@@ -540,6 +541,33 @@ impl World {
     {
         self.soft.pop_stack(level);
         Ok(())
+    }
+
+    // ---- the path of a command
+
+    /// Maps the device path of a command at its address, where drivers can read it and not write
+    /// it. No path is there yet, and no mark is open. A path has at most 45,056 bytes.
+    ///
+    /// # Errors
+    ///
+    /// `OutOfMemory` if there is no memory.
+    pub fn set_path(&mut self, bytes: Vec<u8>) -> Result<(), OutOfMemory>
+        requires none { has_no_path self.old.now.soft.memory ≡ true }
+        requires few { length bytes.items ≤ path_room }
+        requires unmarked { self.old.marks ≡ [] }
+        ensures now { OnOk result (self.new.now ≡ on_soft (path_set bytes.items) self.old.now) }
+        ensures marks { OnOk result (self.new.marks ≡ self.old.marks) }
+    {
+        self.soft.set_path(bytes)
+    }
+
+    /// Removes the device path of a command. If there is none, all is as before. No mark is open.
+    pub fn clear_path(&mut self)
+        requires unmarked { self.old.marks ≡ [] }
+        ensures now { self.new.now ≡ on_soft path_cleared self.old.now }
+        ensures marks { self.new.marks ≡ self.old.marks }
+    {
+        self.soft.clear_path();
     }
 
     // ---- units

@@ -13,6 +13,10 @@ pub const BUS_BINDING: u64 = 0x1_3000;
 /// The loaded image block of the firmware itself (UEFI 2.8, 9.1: EFI Loaded Image Protocol).
 pub const FIRMWARE_IMAGE: u64 = 0x1_4000;
 
+/// The device path that a `connect` command gives, while the command runs (UEFI 2.8, 7.3:
+/// ConnectController, RemainingDevicePath).
+pub const COMMAND_PATH: u64 = 0x1_5000;
+
 /// All tables with an address of their own end at or below this address.
 pub const TABLES_END: u64 = 0x2_0000;
 

@@ -1,10 +1,11 @@
 -- What holds of every soft part, as the calls on its fields leave it.
-use Rattle.std.proofs.Common.{◌≡◌, ◌<◌, ℕ, ◌+◌, Bool, true, false, ◌||◌, cond, length, nat_eq, nat_lt, List, [], ◌∷◌, find, Option, Some, None, sym, subst, refl, ap, ◌∙◌, arith}
+use Rattle.std.proofs.Common.{◌≡◌, ◌<◌, ◌≤◌, ℕ, ◌+◌, Bool, true, false, ◌||◌, cond, length, nat_eq, nat_lt, List, [], ◌∷◌, find, Option, Some, None, sym, subst, refl, ap, arith}
 use Rattle.std.specs.Prelude.{Result, Ok, Err, OnOk, OnErr, is_ok, is_some, option_map, if◌then◌else◌}
 use Rattle.std.specs.List.{list_any}
 use Rattle.std.proofs.lemmas.Bool.{both_ways}
 use Rattle.std.proofs.lemmas.Bool.Decides.{nat_tests}
 use Rattle.fw_types.specs.Guid.{known_guid}
+use Rattle.fw_types.specs.declared.memory.OutOfMemory.{OutOfMemory}
 use Rattle.fw_types.specs.declared.guid.Known.TheVariants.{LoadedImage as LoadedImageProtocol}
 use Rattle.guest_memory.specs.declared.guest.MemRefusal.{MemRefusal}
 use Rattle.guest_memory.specs.declared.segment.Segment.{Segment}
@@ -21,13 +22,13 @@ use Rattle.open_records.specs.Adding.{Gives as GivesRecord, added, is_full as is
 use Rattle.open_records.specs.Verdicts.{judge, may_enter}
 use Rattle.handle_db.specs.Installing.{install_answer, installed, is_full as is_database_full}
 use Rattle.handle_db.specs.Removing.{remove_answer, removed, removal_of}
-use Rattle.world_model.specs.declared.fault.WorldFault.{WorldFault}
-use Rattle.world_model.specs.declared.fault.WorldFault.TheVariants.{Full}
 use Rattle.world_model.specs.declared.image.LoadedImage.{LoadedImage}
 use Rattle.world_model.specs.World.{Soft}
 use Rattle.world_model.specs.Blocks.{block_room}
 use Rattle.world_model.specs.Records.{is_none_or_live, records_removed}
 use Rattle.world_model.specs.Interfaces.{firmware}
+use Rattle.world_model.specs.CommandPath.{has_no_path, path_room, path_segment}
+use Rattle.world_model.proofs.CommandPath.{setting}
 use Rattle.world_model.specs.Images.{block_size, image_added, image_dropped, image_of, is_image_full, next_step, without_image, without_loaded}
 use Rattle.world_model.specs.Thunks.{without_thunks}
 use Rattle.world_model.specs.Kept.{IsKept, has_interface, is_address, is_installed}
@@ -44,6 +45,12 @@ pub kept_installed : (soft : Soft) (who : Option ℕ) (new : Interface) (result 
 kept_installed soft who new (Ok handle) after kept gives ok err =
     subst (λ (db : Database). IsKept (record soft { database = db })) (sym ok) (installing soft who new kept (ap is_ok gives))
 kept_installed soft who new (Err refusal) after kept gives ok err = subst (λ (db : Database). IsKept (record soft { database = db })) (sym err) kept
+
+-- memory with the path of a command, or not
+pub kept_with_path : (soft : Soft) (bytes : List ℕ) (result : Result Unit OutOfMemory) (after : List Segment) → IsKept soft → has_no_path soft.memory ≡ true → length bytes ≤ path_room
+    → OnOk result (after ≡ mapped (path_segment bytes) soft.memory) → OnErr result (after ≡ soft.memory) → IsKept (record soft { memory = after })
+kept_with_path soft bytes (Ok done) after kept none few ok err = subst (λ (memory : List Segment). IsKept (record soft { memory = memory })) (sym ok) (setting soft bytes kept none few)
+kept_with_path soft bytes (Err error) after kept none few ok err = subst (λ (memory : List Segment). IsKept (record soft { memory = memory })) (sym err) kept
 
 -- records with one more open, or not
 pub kept_entered : (soft : Soft) (handle : ℕ) (guid : List ℕ) (agent controller attr : ℕ) (result : Result Unit RecFault) (after : RecordTable) → IsKept soft

@@ -15,6 +15,7 @@ ghost use Rattle.world_model.specs.Interfaces.{firmware, install_answer, interfa
 ghost use Rattle.world_model.specs.Images.{add_answer, block_bytes as block_value, drop_answer, entry_of as entry_value, image_added, image_at as image_value, image_dropped, image_from, image_of as image_found, is_image_full, next_step as first_step, without_image};
 ghost use Rattle.world_model.specs.Thunks.{thunk_answer, thunk_at as thunk_value, thunk_made};
 ghost use Rattle.world_model.specs.Stacks.{frame as frame_value, has_stack, stack_popped, stack_pushed};
+ghost use Rattle.world_model.specs.CommandPath.{has_no_path, path_cleared, path_room, path_set};
 ghost use Rattle.world_model.specs.Kept.{IsKept};
 ghost use Rattle.world_model.specs.Opening.{opening_soft};
 ghost use Rattle.soft_part.specs.Answers.{AsBefore};
@@ -29,7 +30,7 @@ use crate::tables::tables;
 use crate::thunks::{drop_from_segment, thunk_address, thunk_with};
 use ebc_machine::Cpu;
 use fw_types::{Attr, Guid, Handle, Known, MOST_RECORDS, MOST_THUNKS, OutOfMemory};
-use guest_memory::address_map::{BLOCK_END, IMAGE_END, IMAGE_STEP};
+use guest_memory::address_map::{BLOCK_END, COMMAND_PATH, IMAGE_END, IMAGE_STEP};
 use guest_memory::{GuestMem, MemRefusal, Memory, SegKind};
 use handle_db::{Db, DbRefusal};
 use open_records::{RecFault, Records};
@@ -547,6 +548,29 @@ impl SoftPart {
         ensures { self.new ≡ stack_popped level self.old }
     {
         unmap_level(&mut self.memory, level);
+    }
+
+    // ---- the path of a command
+
+    /// Maps the device path of a command. No path is there yet, and it has at most 45,056 bytes.
+    ///
+    /// # Errors
+    ///
+    /// `OutOfMemory` if there is no memory; the soft part is then as before.
+    pub fn set_path(&mut self, bytes: Vec<u8>) -> Result<(), OutOfMemory>
+        requires none { has_no_path self.old.memory ≡ true }
+        requires few { length bytes.items ≤ path_room }
+        ensures ok { OnOk result (self.new ≡ path_set bytes.items self.old) }
+        ensures err { OnErr result (self.new ≡ self.old) }
+    {
+        map_free(&mut self.memory, COMMAND_PATH, bytes, SegKind::Table)
+    }
+
+    /// Removes the device path of a command. If there is none, all is as before.
+    pub fn clear_path(&mut self)
+        ensures { self.new ≡ path_cleared self.old }
+    {
+        let _ = self.memory.unmap(COMMAND_PATH);
     }
 }
 

@@ -10,7 +10,7 @@ use Rattle.world_model.specs.World.{Soft}
 use Rattle.world_model.specs.Marks.{stacks}
 use Rattle.world_model.specs.Stacks.{has_stack, is_marked_stack, stack_base}
 use Rattle.world_model.specs.StackLaws.{inserted}
-use Rattle.world_model.specs.Levels.{CallHasMarks, DeeperHasMarks, DeeperIsFree, MarkingLeavesFree, NextIsFree, OpeningIsAtRest, PushingLeavesFree, RestHasMarks, RestIsFree, SpareIsMade, SparesAreEnough, all_leave_levels, has_marks, is_free, leaves_levels}
+use Rattle.world_model.specs.Levels.{CallHasMarks, DeeperHasMarks, DeeperIsFree, FewerToSpare, MarkingLeavesFree, NextIsFree, OpeningIsAtRest, PushingLeavesFree, RestHasMarks, RestIsFree, SpareIsMade, SparesAreEnough, all_leave_levels, has_marks, is_free, leaves_levels}
 use Rattle.world_model.proofs.StackLaws.{pushing, stack_of_level}
 
 -- ---- stacks
@@ -96,6 +96,10 @@ marking_leaves_free left soft marks free =
 pub spares_are_enough : SparesAreEnough
 unfolding has_marks
 spares_are_enough left marks has = grind (arith, nat_tests)
+
+pub fewer_to_spare : FewerToSpare
+unfolding has_marks
+fewer_to_spare fewer spare left marks few has = grind (arith, nat_tests)
 
 pub deeper_has_marks : DeeperHasMarks
 unfolding has_marks

@@ -16,6 +16,7 @@ pub mod Structures
 pub mod KeepingImages
 pub mod KeepingStacks
 pub mod KeepingThunks
+pub mod CommandPath
 pub mod OpeningState
 pub mod FixedSegments
 pub mod StackLaws

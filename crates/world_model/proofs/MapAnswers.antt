@@ -31,7 +31,7 @@ free-overlap segments new fits = by_test (overlaps segments new) (is_full segmen
     by_test false two fits = refl
 
 -- nothing refuses what meets no other and passes no limit
-map-fits : (segments : List Segment) (new : Segment) → end_of new ≤ 2 ^ 63 → list_any (λ (other : Segment). meets new other) segments ≡ false → is_full segments new.kind (length new.bytes) ≡ false → map_answer segments new ≡ Ok tt
+pub map-fits : (segments : List Segment) (new : Segment) → end_of new ≤ 2 ^ 63 → list_any (λ (other : Segment). meets new other) segments ≡ false → is_full segments new.kind (length new.bytes) ≡ false → map_answer segments new ≡ Ok tt
 map-fits segments new end apart room =
     let low : nat_lt (2 ^ 63) (end_of new) ≡ false = grind (arith, nat_tests) in
     rw (low, apart, room) refl

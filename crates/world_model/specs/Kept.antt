@@ -95,7 +95,7 @@ numbers_rise number (thunk ∷ thunks) next = nat_le number thunk.number && numb
 
 -- whether a record's interface is there, its agent is live, and so is its controller if it has one
 abbrev pub are_parties_live : Database → KeyedRecord → Bool
-are_parties_live db held = has held.handle held.guid db && (is_live held.rec.agent db && is_none_or_live held.rec.controller db)
+are_parties_live db keyed = has keyed.handle keyed.guid db && (is_live keyed.rec.agent db && is_none_or_live keyed.rec.controller db)
 
 -- ---- the parts
 --

@@ -25,15 +25,15 @@ pub record HandleNode : Type 0 where
   pub interfaces : List InterfaceNode
 
 abbrev pub interface_view : List KeyedRecord → ℕ → Interface → InterfaceNode
-interface_view held handle listed = record {
+interface_view entries handle listed = record {
   guid = listed.guid;
   interface = listed.interface;
   owner = listed.owner;
-  records = records_of held handle listed.guid;
+  records = records_of entries handle listed.guid;
 }
 
 abbrev pub handle_view : List KeyedRecord → HandleEntry → HandleNode
-handle_view held entry = record { handle = entry.handle; interfaces = map (interface_view held entry.handle) entry.interfaces }
+handle_view entries entry = record { handle = entry.handle; interfaces = map (interface_view entries entry.handle) entry.interfaces }
 
 -- the database with the records, by rising handle
 abbrev pub nested : Soft → List HandleNode
@@ -68,10 +68,10 @@ EveryoneIsLegal = (soft : Soft) → IsKept soft → IsLegal (nested soft)
 
 -- whether a record is among those of its interface
 abbrev pub has_record : List HandleNode → KeyedRecord → Bool
-has_record handles held =
+has_record handles keyed =
     list_any (λ (one : HandleNode).
-    nat_eq one.handle held.handle
-    && list_any (λ (listed : InterfaceNode). bytes_eq listed.guid held.guid && list_any (is_equal held.rec.agent held.rec.controller held.rec.attr) listed.records) one.interfaces) handles
+    nat_eq one.handle keyed.handle
+    && list_any (λ (listed : InterfaceNode). bytes_eq listed.guid keyed.guid && list_any (is_equal keyed.rec.agent keyed.rec.controller keyed.rec.attr) listed.records) one.interfaces) handles
 
 -- each record is with its interface
 abbrev pub NoneIsLost : Type 0

@@ -1,6 +1,6 @@
 -- Which stacks may be there, and how many marks may be open, while something runs at a level; and what
 -- holds between commands. A level counts by `left`, the levels that may still be entered after it.
-use Rattle.std.specs.Prelude.{◌≡◌, ◌<◌, ℕ, ◌+◌, ◌-◌, ◌*◌, Bool, true, false, ◌&&◌, nat_le, List, [], ◌∷◌, length}
+use Rattle.std.specs.Prelude.{◌≡◌, ◌<◌, ◌≤◌, ℕ, ◌+◌, ◌-◌, ◌*◌, Bool, true, false, ◌&&◌, nat_le, List, [], ◌∷◌, length}
 use Rattle.std.specs.List.{list_all}
 use Rattle.fw_types.specs.declared.limits.TheConstants.{MOST_LEVELS, MOST_MARKS}
 use Rattle.guest_memory.specs.declared.address_map.TheConstants.{STACK_SIZE}
@@ -58,6 +58,10 @@ has_marks spare left marks = nat_le (length marks + spare + 3 * left) most_open
 -- what has marks to spare can do with none
 abbrev pub SparesAreEnough : Type 0
 SparesAreEnough = (left : ℕ) (marks : List Soft) → has_marks 2 left marks ≡ true → has_marks 0 left marks ≡ true
+
+-- what has some to spare has fewer to spare
+abbrev pub FewerToSpare : Type 0
+FewerToSpare = (fewer spare left : ℕ) (marks : List Soft) → fewer ≤ spare → has_marks spare left marks ≡ true → has_marks fewer left marks ≡ true
 
 -- what has enough at a level has enough at the next one
 abbrev pub DeeperHasMarks : Type 0

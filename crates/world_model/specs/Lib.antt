@@ -15,6 +15,7 @@ pub mod Kept
 pub mod Legal
 pub mod Fixed
 pub mod Keeping
+pub mod CommandPath
 pub mod StackLaws
 pub mod ImageLaws
 pub mod ThunkLaws

@@ -7,9 +7,10 @@ ghost use Rattle.guest_memory.specs.declared.address_map.TheConstants.{BLOCK_END
 ghost use Rattle.world_model.specs.ThunkLaws.{DroppingTakesThunks, MadeIsFound, MakingKeepsOthers, ThunkEntersImage};
 ghost use Rattle.world_model.specs.ImageLaws.{AddedIsFound};
 ghost use Rattle.world_model.specs.Children.{ChildrenAreFew};
+ghost use Rattle.world_model.specs.CommandPath.{ClearingLeavesNoPath, OpeningHasNoPath, PathClearingKeeps, PathClearingKeepsStacks, PathFits, PathSettingKeeps, PathSettingKeepsStacks, SetPathIsAlone};
 ghost use Rattle.world_model.specs.Fixed.{MappingKeepsFixed, PuttingKeepsFixed, UnmappingKeepsFixed, WritingKeepsFixed};
 ghost use Rattle.world_model.specs.Legal.{DeadIsNotNamed, EveryoneIsLegal, NoneIsLost};
-ghost use Rattle.world_model.specs.Levels.{CallHasMarks, DeeperHasMarks, DeeperIsFree, MarkingLeavesFree, NextIsFree, OpeningIsAtRest, PushingLeavesFree, RestHasMarks, RestIsFree, SpareIsMade, SparesAreEnough};
+ghost use Rattle.world_model.specs.Levels.{CallHasMarks, DeeperHasMarks, DeeperIsFree, FewerToSpare, MarkingLeavesFree, NextIsFree, OpeningIsAtRest, PushingLeavesFree, RestHasMarks, RestIsFree, SpareIsMade, SparesAreEnough};
 ghost use Rattle.world_model.specs.Marks.{CommitSpendsMark, RollbackPutsBack};
 ghost use Rattle.world_model.specs.NestedLaws.{AllLeavingInView, ChildLeavingInView, EnteringInView, InstallingInView, LeavingInView, NewHandleInView, UninstallingInView, WeakDroppingInView};
 ghost use Rattle.world_model.specs.StackLaws.{AddingKeepsStacks, AllottingKeepsStacks, DroppingKeepsStacks, FreeingKeepsStacks, PoppingUndoesPush, PoppingTakesStack, PushedStackIsThere, PushingAddsStack, PuttingKeepsStacks, StackOfLevel, WritingKeepsStacks};
@@ -76,6 +77,20 @@ pub fn segments_fit()
     ensures list { ListFits }
 {}
 
+/// The device path of a `connect` command is mapped where nothing else is. To set and to clear it
+/// leaves what holds of every soft part, and all stacks. After it is cleared no path is there, as at
+/// first.
+pub fn command_paths_fit()
+    ensures fits { PathFits }
+    ensures setting { PathSettingKeeps }
+    ensures clearing { PathClearingKeeps }
+    ensures setting_stacks { PathSettingKeepsStacks }
+    ensures clearing_stacks { PathClearingKeepsStacks }
+    ensures opening { OpeningHasNoPath }
+    ensures alone { SetPathIsAlone }
+    ensures none { ClearingLeavesNoPath }
+{}
+
 /// Which stacks are there: all changes leave them, except for those that push and pop one.
 pub fn stacks_stand()
     ensures level { StackOfLevel }
@@ -114,11 +129,12 @@ pub fn marks_suffice()
 {}
 
 /// Between commands no stack is there and no mark is open, as at first; so all levels are free, and
-/// there is room for their marks.
+/// there is room for their marks, with some to spare.
 pub fn rest_is_free()
     ensures opening { OpeningIsAtRest }
     ensures free { RestIsFree }
     ensures marks { RestHasMarks }
+    ensures fewer { FewerToSpare }
 {}
 
 /// A rollback puts the soft part back as it was when the mark was made, and a commit leaves it,
