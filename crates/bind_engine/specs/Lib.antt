@@ -1,0 +1,6 @@
+pub mod Levels
+pub mod CommandPaths
+pub mod RomLoad
+pub mod Dump
+pub mod Machine
+pub mod Commands

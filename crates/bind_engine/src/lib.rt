@@ -1,17 +1,25 @@
-//! The engine that runs drivers over the world: a driver's code runs turn by turn, its native calls are
-//! served, its requests for thunks are met, and an image's entry point is called.
+//! The driver-model machine: it does the commands of a script, one after the other (UEFI 2.8, 7.3,
+//! 7.4 and 11.1). `Machine::boot` gives the machine in its opening state, and `Machine::exec` does a
+//! command and answers the reply to it.
 //!
-//! What each function does is a definition of `driver_model`, which its contract cites. So a contract here
-//! says that definition's result and the state that it leaves, and that no open mark keeps anything else
-//! than before. Nothing is undone here: if a call does not commit, its caller puts the soft part back.
+//! - `machine`: the machine, and which function does which command.
+//! - `load`, `rom_load`: `load`, for one image or for the images of an option ROM.
+//! - `connect`, `command_path`: `connect` and `disconnect`, and the device path that is in memory
+//!   while a `connect` runs.
+//! - `settings`: `platform`. `dump`: `dump`.
+//!
+//! The definitions are in `specs/`: what each command gives is `exec` of `specs/Commands.antt`. The
+//! drivers are run by `engine`.
 #![tactic(auto)]
 
-mod driver_call;
-mod guest_run;
-mod native_call;
-mod thunk_request;
+mod command_path;
+mod connect;
+mod dump;
+mod ending;
+mod levels;
+mod load;
+mod machine;
+mod rom_load;
+mod settings;
 
-pub use driver_call::call_entry;
-
-#[cfg(test)]
-mod tests;
+pub use machine::{ExecFault, Machine};

@@ -7,7 +7,7 @@ use Rattle.handle_db.specs.Database.{is_handle, rise_from}
 use Rattle.handle_db.specs.declared.handle_entry.HandleEntry.{HandleEntry}
 use Rattle.world_model.specs.Kept.{IsKept}
 use Rattle.world_model.specs.World.{Soft}
-use Rattle.engine_model.specs.Bindings.{binding}
+use Rattle.driver_model.specs.Bindings.{binding}
 
 not_found : (number low : ℕ) (entries : List HandleEntry) → number < low → rise_from low entries ≡ true → find (is_handle number) entries ≡ None
 not_found number low [] less rising = refl

@@ -6,9 +6,9 @@ use Rattle.std.specs.Ordering.{is_lt, nat_cmp}
 use Rattle.std.proofs.lemmas.Bool.{and_from, and_parts}
 use Rattle.std.proofs.lemmas.Bool.Decides.{nat_tests}
 use Rattle.std.proofs.lemmas.List.Elements.{filter_agree}
-use Rattle.engine_model.specs.DriverOrder.{by_version}
-use Rattle.engine_model.specs.OrderLaws.{FallingIsByVersion, has_version, has_version_up_to, is_by_handle, is_falling}
-use Rattle.engine_model.specs.declared.binding.BindingBlock.{BindingBlock}
+use Rattle.driver_model.specs.DriverOrder.{by_version}
+use Rattle.driver_model.specs.OrderLaws.{FallingIsByVersion, has_version, has_version_up_to, is_by_handle, is_falling}
+use Rattle.driver_model.specs.declared.binding.BindingBlock.{BindingBlock}
 
 -- whether the Version of one is greater than the other's
 abbrev pub is_higher : BindingBlock → BindingBlock → Bool

@@ -1,9 +1,9 @@
 //! Driver bindings, as their bytes in guest memory say.
 ghost use Rattle.std.specs.Prelude.{◌≡◌, length, IfOk};
-ghost use Rattle.engine_model.specs.Bindings.{all_bindings, binding as binding_value, bindings_of, block_at as block_value, block_of};
+ghost use Rattle.driver_model.specs.Bindings.{all_bindings, binding as binding_value, bindings_of, block_at as block_value, block_of};
 
 use byteorder::{ByteOrder, LittleEndian};
-use engine_model::{BINDING_SIZE, BindingBlock};
+use driver_model::{BINDING_SIZE, BindingBlock};
 use fw_types::{Guid, Handle, Known, OutOfMemory};
 use fw_world::World;
 

@@ -1,13 +1,13 @@
 //! The order in which drivers are asked for a controller.
 ghost use Rattle.std.specs.Prelude.{◌≡◌, ◌++◌, not, nat_eq, true, filter, flat_map, IfOk, OnOk};
-ghost use Rattle.engine_model.specs.Bindings.{all_bindings as all_bindings_value};
-ghost use Rattle.engine_model.specs.DriverOrder.{by_version, drivers_by, first_places as first_places_value, order as order_value};
-ghost use Rattle.engine_model.specs.OrderLaws.{chosen_first as chosen_first_value, is_among as is_among_value, is_by_handle};
-ghost use Rattle.engine_model.specs.declared.binding.BindingBlock.{BindingBlock as BlockValue};
+ghost use Rattle.driver_model.specs.Bindings.{all_bindings as all_bindings_value};
+ghost use Rattle.driver_model.specs.DriverOrder.{by_version, drivers_by, first_places as first_places_value, order as order_value};
+ghost use Rattle.driver_model.specs.OrderLaws.{chosen_first as chosen_first_value, is_among as is_among_value, is_by_handle};
+ghost use Rattle.driver_model.specs.declared.binding.BindingBlock.{BindingBlock as BlockValue};
 
 use crate::bindings::{all_bindings, binding, bindings_of};
-use engine_model::BindingBlock;
-use engine_model::order_laws::{lists_of_drivers, order_of_drivers};
+use driver_model::BindingBlock;
+use driver_model::order_laws::{lists_of_drivers, order_of_drivers};
 use fw_types::{Handle, OutOfMemory};
 use fw_world::World;
 use std::alloc::Global;

@@ -1,7 +1,7 @@
 //! The drivers that are stopped for a controller.
 ghost use Rattle.std.specs.Prelude.{◌≡◌, ◌++◌, ◌∷◌, [], nat_eq, filter, option_map, IfOk, OnOk, if◌then◌else◌};
 ghost use Rattle.std.specs.List.{list_any};
-ghost use Rattle.engine_model.specs.StopOrder.{has_child as has_child_value, only_driver, stop_list as stop_list_value};
+ghost use Rattle.driver_model.specs.StopOrder.{has_child as has_child_value, only_driver, stop_list as stop_list_value};
 
 use fw_types::{Handle, OutOfMemory};
 use fw_world::World;
@@ -16,7 +16,7 @@ use std::alloc::Global;
 /// # Errors
 ///
 /// `OutOfMemory` if there is no memory for the list.
-#[tactic(auto, unfolding(engine_model::specs::StopOrder::stop_list))]
+#[tactic(auto, unfolding(driver_model::specs::StopOrder::stop_list))]
 pub fn stop_list(
     world: &World,
     controller: Handle,

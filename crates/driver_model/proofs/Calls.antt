@@ -1,114 +1,109 @@
--- What a driver call leaves.
-use Rattle.std.proofs.Common.{◌≡◌, ◌≤◌, ℕ, ◌+◌, ◌-◌, min, Bool, true, false, not, nat_eq, nat_le, nat_lt, List, [], ◌∷◌, ◌++◌, length, map, filter, refl, sym, ap, ◌∙◌, arith}
-use Rattle.std.specs.Prelude.{if◌then◌else◌}
+-- What driver calls leave as it was, and their events.
+use Rattle.std.proofs.Common.{◌≡◌, ℕ, ◌+◌, ◌-◌, suc, Bool, true, false, nat_eq, nat_lt, List, [], ◌∷◌, ◌++◌, length, map, take, refl, ap, sym, subst, arith, if◌then◌else◌}
+use Rattle.std.specs.Prelude.{Some, slice_get}
 use Rattle.std.proofs.lemmas.Bool.Decides.{nat_tests}
 use Rattle.fw_types.specs.declared.event.Cause.TheVariants.{Budget}
 use Rattle.fw_types.specs.declared.event.Event.{Event}
 use Rattle.fw_types.specs.declared.event.Outcome.{Outcome}
 use Rattle.fw_types.specs.declared.event.Outcome.TheVariants.{Trapped}
-use Rattle.world_model.specs.World.{State, on_soft}
-use Rattle.world_model.specs.Events.{next_serial, pending_outcome, with_result}
-use Rattle.world_model.specs.Fixed.{MappingKeepsFixed, UnmappingKeepsFixed, fixed_segments}
-use Rattle.world_model.specs.Keeping.{PoppingKeeps, PushingKeeps, TplKeeps}
-use Rattle.world_model.specs.Kept.{IsKept}
-use Rattle.world_model.specs.Marks.{stacks}
-use Rattle.world_model.specs.Stacks.{stack_base, stack_popped, stack_pushed}
-use Rattle.world_model.specs.StackLaws.{PoppingUndoesPush, PoppingTakesStack, PushingAddsStack, StackOfLevel}
+use Rattle.fw_types.specs.declared.limits.TheConstants.{CALL_PRICE, MOST_LEVELS}
+use Rattle.world_model.specs.World.{State}
+use Rattle.world_model.specs.Events.{next_serial, with_result}
+use Rattle.service_model.specs.SecondLook.{SpendsNothing}
+use Rattle.service_model.specs.Untouched.{EventsStay, UnitsNeverRise}
+use Rattle.driver_model.specs.Moves.{plain}
+use Rattle.driver_model.specs.Activations.{next_scope}
+use Rattle.driver_model.specs.Allowed.{has_sixteen}
+use Rattle.driver_model.specs.CallLaws.{CallsHaveTheirEvent, CallsLeaveTpl, SupportedLeaves, UncommittedCallsLeave, event_of}
+use Rattle.driver_model.specs.DriverCall.{allowance, begun, called, commits, ended, entered, kept_or_undone}
+use Rattle.driver_model.specs.Levels.{below, level_with}
+use Rattle.driver_model.specs.Spending.{without_result}
 use Rattle.driver_model.specs.declared.call.Call.{Call}
-use Rattle.driver_model.specs.GuestRun.{run}
-use Rattle.fw_types.specs.declared.limits.TheConstants.{CALL_BUDGET, CALL_PRICE}
-use Rattle.driver_model.specs.DriverCall.{allowance, begun, call_cpu, call_made, ended, ran_on_stack}
-use Rattle.driver_model.specs.Spending.{Spends}
-use Rattle.driver_model.specs.RunLaws.{RunEventsStay, RunKeeps, RunKeepsFixed, RunKeepsStacks, RunUnitsNeverRise, left_by_run}
-use Rattle.driver_model.specs.CallLaws.{CallAddsEvent, CallKeepsTpl, CallSpends, CanBegin, event_of}
-use Rattle.driver_model.proofs.Events.{ends-last, length-ended}
-use Rattle.driver_model.proofs.Stacks.{fixed-popped}
+use Rattle.driver_model.specs.declared.call.CallKind.{CallKind}
+use Rattle.driver_model.specs.declared.call.Scope.{Scope}
+use Rattle.driver_model.specs.declared.settings.Settings.{Settings}
+use Rattle.driver_model.proofs.Keeping.{entered_keeps}
+use Rattle.driver_model.proofs.Spending.{SpendsAt, any_list, below_spends, spending_kept}
 
--- ---- the ways that a call goes
+-- what a call gives, by whether its price is more than it may spend
+abbrev given : (short : Bool) → CallKind → State → Outcome × State → Outcome × State
+given short kind w r = if short then (Trapped Budget, w) else kept_or_undone plain kind w.soft r
 
-cases : (P : Outcome × State → Type 0) (w : State) (r : Outcome × State) (short : Bool) → nat_lt (allowance w) CALL_PRICE ≡ short
-    → (nat_lt (allowance w) CALL_PRICE ≡ true → P (Trapped Budget, w)) → (nat_lt (allowance w) CALL_PRICE ≡ false → P r)
-    → P (if short then (Trapped Budget, w) else r)
-cases P w r true is budget made = budget is
-cases P w r false is budget made = made is
+uncommitted-by : (short : Bool) (kind : CallKind) (w : State) (r : Outcome × State) → commits kind (given short kind w r).0 ≡ false → (given short kind w r).1.soft ≡ w.soft
+uncommitted-by true kind w r fails = refl
+uncommitted-by false kind w r fails = rw fails refl
 
-pub call-by : (P : Outcome × State → Type 0) (parent level : ℕ) (call : Call) (children : List ℕ) (w : State)
-    → (nat_lt (allowance w) CALL_PRICE ≡ true → P (Trapped Budget, w))
-    → (nat_lt (allowance w) CALL_PRICE ≡ false → P (ended w (ran_on_stack level call children (begun parent call w))))
-    → P (call_made parent level call children w)
-unfolding call_made
-call-by P parent level call children w budget made =
-    cases P w (ended w (ran_on_stack level call children (begun parent call w))) (nat_lt (allowance w) CALL_PRICE) refl budget made
+pub uncommitted-law : UncommittedCallsLeave
+unfolding called
+uncommitted-law settings room scope call children w fails =
+    uncommitted-by (nat_lt (allowance settings w) CALL_PRICE) call.kind w _ fails
 
--- the state as its code begins, and as it ends
-abbrev entered : (parent level : ℕ) → Call → List ℕ → State → State
-entered parent level call children w = on_soft (stack_pushed level call.slots children) (begun parent call w)
+pub supported-law : SupportedLeaves
+supported-law settings room scope call children w is = uncommitted-law settings room scope call children w (rw is refl)
 
-abbrev over : (parent level : ℕ) → Call → List ℕ → State → State
-over parent level call children w = left_by_run level (call_cpu level call) (entered parent level call children w)
+tpl-by : (short : Bool) (settings : Settings) (kind : CallKind) (w : State) (r : Outcome × State) → (given short kind w (ended plain settings w r)).1.soft.tpl ≡ w.soft.tpl
+tpl-by true settings kind w r = refl
+tpl-by false settings kind w r = kept (commits kind r.0)
+  where
+    kept : (commit : Bool) → (if commit then (ended plain settings w r).1 else record (ended plain settings w r).1 { soft = w.soft }).soft.tpl ≡ w.soft.tpl
+    kept true = refl
+    kept false = refl
 
--- ---- the soft part
+pub tpl-law : CallsLeaveTpl
+unfolding called
+tpl-law settings room scope call children w =
+    tpl-by (nat_lt (allowance settings w) CALL_PRICE) settings call.kind w (entered plain settings (below plain settings room) (next_scope plain w) (level_with room) call children (begun plain settings scope call w))
 
-pub keeps-tpl : CallKeepsTpl
-keeps-tpl parent level call children w = call-by (λ (r : Outcome × State). r.1.soft.tpl ≡ w.soft.tpl) parent level call children w (λ short. refl) (λ enough. refl)
+-- ---- the event of a call
 
-module _ (pushing : PushingKeeps) (running : RunKeeps) (level : ℕ) (call : Call) (children : List ℕ) (w : State) (can : CanBegin level call children w) where
-  pushed : IsKept (stack_pushed level call.slots children w.soft)
-  pushed = pushing w.soft level call.slots children can.kept can.from can.to can.slots can.none can.few
+abbrev ended_so : Outcome → Event → Event
+ended_so outcome event = record event { result = outcome }
 
-  still : (parent : ℕ) → IsKept (over parent level call children w).soft
-  still parent = running level (call_cpu level call) (entered parent level call children w) pushed
+own-by : (event : Event) (outcome : Outcome) (other : Event) → without_result other ≡ without_result event → with_result event.serial outcome other ≡ ended_so outcome event
+own-by event outcome other same =
+    let serial : other.serial ≡ event.serial = ap (λ (e : Event). e.serial) same in
+    let is : nat_eq other.serial event.serial ≡ true = grind (arith, nat_tests, serial) in
+    rw is (ap (ended_so outcome) same)
 
-  pub keeps : PoppingKeeps → TplKeeps → (parent : ℕ) → IsKept (call_made parent level call children w).1.soft
-  keeps popping setting parent =
-      call-by (λ (r : Outcome × State). IsKept r.1.soft) parent level call children w (λ short. can.kept)
-      (λ enough. setting (stack_popped level (over parent level call children w).soft) w.soft.tpl (popping (over parent level call children w).soft level (still parent) can.from can.to))
+own-event : (before after : List Event) (event : Event) (outcome : Outcome)
+    → map without_result (take (length (before ++ event ∷ [])) after) ≡ map without_result (before ++ event ∷ [])
+    → slice_get (map (with_result event.serial outcome) after) (length before) ≡ Some (ended_so outcome event)
+own-event [] [] event outcome stays = absurd cc
+own-event [] (other ∷ after) event outcome stays = ap Some (own-by event outcome other cc)
+own-event (first ∷ before) [] event outcome stays = absurd cc
+own-event (first ∷ before) (other ∷ after) event outcome stays = own-event before after event outcome cc
 
-  pub keeps-stacks : RunKeepsStacks → PushingAddsStack → PoppingTakesStack → PoppingUndoesPush → StackOfLevel → (parent : ℕ)
-      → stacks (call_made parent level call children w).1.soft ≡ stacks w.soft
-  keeps-stacks stays adding taking undone stack_of parent =
-      call-by (λ (r : Outcome × State). stacks r.1.soft ≡ stacks w.soft) parent level call children w (λ short. refl)
-      (λ enough.
-      taking (over parent level call children w).soft level (still parent) can.to
-      ∙ ap (filter (λ (base : ℕ). not (nat_eq base (stack_base level))))
-      (stays level (call_cpu level call) (entered parent level call children w) pushed ∙ adding w.soft level call.slots children can.kept)
-      ∙ undone level (stacks w.soft) (sym (stack_of w.soft level) ∙ can.none))
+module _ (events_stay : EventsStay) (units_fall : UnitsNeverRise) (looks : SpendsNothing) where
+  events-by : (short : Bool) (settings : Settings) (scope : Scope) (call : Call) (w : State) (r : Outcome × State) → short ≡ false
+      → map without_result (take (length (begun plain settings scope call w).hard.events) r.1.hard.events) ≡ map without_result (begun plain settings scope call w).hard.events
+      → slice_get (given short call.kind w (ended plain settings w r)).1.hard.events (length w.hard.events)
+      ≡ Some (event_of scope call (given short call.kind w (ended plain settings w r)).0 (next_serial w.hard))
+  events-by true settings scope call w r fails stays = absurd cc
+  events-by false settings scope call w r fails stays = kept (commits call.kind r.0)
+    where
+      there : slice_get (ended plain settings w r).1.hard.events (length w.hard.events) ≡ Some (event_of scope call r.0 (next_serial w.hard))
+      there = own-event w.hard.events r.1.hard.events _ r.0 stays
 
-  pub keeps-fixed : RunKeepsFixed → MappingKeepsFixed → UnmappingKeepsFixed → (parent : ℕ) → fixed_segments (call_made parent level call children w).1.soft.memory ≡ fixed_segments w.soft.memory
-  keeps-fixed stays mapping unmapping parent =
-      call-by (λ (r : Outcome × State). fixed_segments r.1.soft.memory ≡ fixed_segments w.soft.memory) parent level call children w (λ short. refl)
-      (λ enough.
-      fixed-popped mapping unmapping pushing level call.slots w.soft can.kept can.from can.to can.slots can.none children (over parent level call children w).soft can.few (still parent)
-      (stays level (call_cpu level call) (entered parent level call children w) pushed))
+      kept : (commit : Bool) → slice_get (if commit then (ended plain settings w r).1 else record (ended plain settings w r).1 { soft = w.soft }).hard.events (length w.hard.events) ≡ Some (event_of scope call r.0 (next_serial w.hard))
+      kept true = there
+      kept false = there
 
--- ---- the hard part
+  abbrev HasItsEvent : Settings → Scope → Call → State → Outcome × State → Type 0
+  HasItsEvent settings scope call w r = slice_get r.1.hard.events (length w.hard.events) ≡ Some (event_of scope call r.0 (next_serial w.hard))
 
--- its event as it begins
-abbrev beginning : (parent : ℕ) → Call → State → Event
-beginning parent call w = event_of parent call pending_outcome (next_serial w.hard)
+  event-at : (settings : Settings) (room level : ℕ) (scope : Scope) (call : Call) (children : List ℕ) (w : State) → suc level + room ≡ MOST_LEVELS → has_sixteen call.slots ≡ true
+      → nat_lt (allowance settings w) CALL_PRICE ≡ false → HasItsEvent settings scope call w (called plain settings (below plain settings room) (suc level) scope call children w)
+  unfolding called
+  event-at settings room level scope call children w all sixteen short =
+      let v : State = begun plain settings scope call w in
+      events-by (nat_lt (allowance settings w) CALL_PRICE) settings scope call w (entered plain settings (below plain settings room) (next_scope plain w) (suc level) call children v) short
+      (entered_keeps plain any_list SpendsAt (spending_kept events_stay units_fall looks) settings level (below plain settings room)
+      (below_spends events_stay units_fall looks settings room (suc level) all) (next_scope plain w) call children v (omega (arith, all)) sixteen refl).stays
 
-pub adds-event : RunEventsStay → CallAddsEvent
-adds-event stays parent level call children w numbered =
-    call-by
-    (λ (r : Outcome × State). r.1.hard.events ≡ (if nat_le CALL_PRICE (allowance w) then w.hard.events ++ event_of parent call r.0 (next_serial w.hard) ∷ [] else w.hard.events))
-    parent level call children w
-    (λ short. let no : nat_le CALL_PRICE (allowance w) ≡ false = grind (arith, nat_tests) in rw no refl)
-    (λ enough.
-    let yes : nat_le CALL_PRICE (allowance w) ≡ true = grind (arith, nat_tests) in
-    let r = run level (call_cpu level call) (entered parent level call children w) in
-    rw yes
-    (ap (map (with_result (next_serial w.hard) r.0)) (stays level (call_cpu level call) (entered parent level call children w))
-    ∙ ends-last (next_serial w.hard) r.0 w.hard.events (beginning parent call w) numbered refl refl))
-
-pub spends : RunUnitsNeverRise → RunEventsStay → CallSpends
-spends units stays parent level call children w =
-    call-by (λ (r : Outcome × State). Spends w r.1) parent level call children w
-    (λ short. record { falls = omega arith; paid = omega arith })
-    (λ enough.
-    let r = run level (call_cpu level call) (entered parent level call children w) in
-    let events : length (map (with_result (next_serial w.hard) r.0) r.1.hard.events) ≡ length w.hard.events + 1 =
-    ap (λ events. length (map (with_result (next_serial w.hard) r.0) events)) (stays level (call_cpu level call) (entered parent level call children w))
-    ∙ length-ended (next_serial w.hard) r.0 w.hard.events (beginning parent call w) in
-    let left : r.1.hard.units ≤ min CALL_BUDGET w.hard.units - CALL_PRICE = units level (call_cpu level call) (entered parent level call children w) in
-    let some : CALL_PRICE ≤ min CALL_BUDGET w.hard.units = grind (arith, nat_tests) in
-    record { falls = omega arith; paid = omega (arith, events) })
+  pub events-law : CallsHaveTheirEvent
+  events-law settings room scope call children w lt sixteen enough =
+      let level : ℕ = MOST_LEVELS - suc room in
+      let next : level_with room ≡ suc level = omega (arith, lt) in
+      let short : nat_lt (allowance settings w) CALL_PRICE ≡ false = grind (arith, nat_tests, enough) in
+      subst (λ (l : ℕ). HasItsEvent settings scope call w (called plain settings (below plain settings room) l scope call children w)) (sym next)
+      (event-at settings room level scope call children w (omega (arith, lt)) sixteen short)

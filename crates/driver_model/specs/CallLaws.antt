@@ -1,77 +1,87 @@
--- What a driver call leaves.
-use Rattle.std.specs.Prelude.{◌≡◌, ◌<◌, ◌≤◌, ℕ, true, false, nat_le, List, [], ◌∷◌, ◌++◌, length, if◌then◌else◌}
+-- What driver calls and searches leave as it was.
+use Rattle.std.specs.Prelude.{◌≡◌, ◌<◌, ℕ, true, false, List, length, None, Some, slice_get}
+use Rattle.std.specs.List.{list_any}
 use Rattle.fw_types.specs.declared.event.Event.{Event}
 use Rattle.fw_types.specs.declared.event.Outcome.{Outcome}
-use Rattle.fw_types.specs.declared.limits.TheConstants.{MOST_LEVELS, MOST_LISTED}
+use Rattle.fw_types.specs.declared.limits.TheConstants.{CALL_PRICE, MOST_LEVELS}
+use Rattle.std.specs.Prelude.{nat_le}
 use Rattle.world_model.specs.World.{State}
-use Rattle.world_model.specs.Events.{are_numbered, next_serial}
-use Rattle.world_model.specs.Fixed.{fixed_segments}
-use Rattle.world_model.specs.Kept.{IsKept}
-use Rattle.world_model.specs.Marks.{stacks}
-use Rattle.world_model.specs.Stacks.{has_stack}
+use Rattle.world_model.specs.Events.{next_serial}
+use Rattle.driver_model.specs.Moves.{plain}
+use Rattle.driver_model.specs.Allowed.{has_sixteen}
+use Rattle.driver_model.specs.DriverOrder.{order, platform_list}
+use Rattle.driver_model.specs.OrderLaws.{is_each_once}
+use Rattle.driver_model.specs.Connect.{found, is_marked, unmarked}
+use Rattle.driver_model.specs.DriverCall.{allowance, called, commits, event_kind}
+use Rattle.driver_model.specs.Levels.{below, level_over, level_with}
+use Rattle.driver_model.specs.declared.binding.BindingBlock.{BindingBlock}
 use Rattle.driver_model.specs.declared.call.Call.{Call}
-use Rattle.fw_types.specs.declared.limits.TheConstants.{CALL_PRICE}
-use Rattle.driver_model.specs.DriverCall.{allowance, call_made}
-use Rattle.driver_model.specs.Spending.{Spends}
+use Rattle.driver_model.specs.declared.call.CallKind.TheVariants.{Supported}
+use Rattle.driver_model.specs.declared.call.Scope.{Scope}
+use Rattle.driver_model.specs.declared.request.Connection.{Connection}
+use Rattle.driver_model.specs.declared.settings.Settings.{Settings}
 
--- how a call ends, and the state that it leaves
-abbrev pub outcome_of : (parent level : ℕ) → Call → List ℕ → State → Outcome
-outcome_of parent level call children w = (call_made parent level call children w).0
+-- ---- driver calls
 
-abbrev pub left_by_call : (parent level : ℕ) → Call → List ℕ → State → State
-left_by_call parent level call children w = (call_made parent level call children w).1
+abbrev pub outcome_of_call : Settings → (room : ℕ) → Scope → Call → (children : List ℕ) → State → Outcome
+outcome_of_call settings room scope call children w = (called plain settings (below plain settings room) (level_with room) scope call children w).0
 
--- what a call asks of the state in which it begins: its level has no stack yet
-pub record CanBegin (level : ℕ) (call : Call) (children : List ℕ) (w : State) : Type 0 where
-  pub kept : IsKept w.soft
-  pub from : 0 < level
-  pub to : level ≤ MOST_LEVELS
-  pub none : has_stack level w.soft.memory ≡ false
-  pub slots : length call.slots ≡ 16
-  pub few : length children ≤ MOST_LISTED
+abbrev pub left_by_call : Settings → (room : ℕ) → Scope → Call → (children : List ℕ) → State → State
+left_by_call settings room scope call children w = (called plain settings (below plain settings room) (level_with room) scope call children w).1
 
--- the tables, lists of children and blocks of the firmware: the same ones are there, with their bytes
-abbrev pub CallKeepsFixed : Type 0
-CallKeepsFixed =
-    (parent level : ℕ) (call : Call) (children : List ℕ) (w : State) → CanBegin level call children w
-    → fixed_segments (left_by_call parent level call children w).soft.memory ≡ fixed_segments w.soft.memory
+-- A call that does not commit leaves the soft part as it was, whatever it and all that it called did.
+abbrev pub UncommittedCallsLeave : Type 0
+UncommittedCallsLeave =
+    (settings : Settings) (room : ℕ) (scope : Scope) (call : Call) (children : List ℕ) (w : State)
+    → commits call.kind (outcome_of_call settings room scope call children w) ≡ false
+    → (left_by_call settings room scope call children w).soft ≡ w.soft
 
--- which stacks stand
-abbrev pub CallKeepsStacks : Type 0
-CallKeepsStacks =
-    (parent level : ℕ) (call : Call) (children : List ℕ) (w : State) → CanBegin level call children w
-    → stacks (left_by_call parent level call children w).soft ≡ stacks w.soft
-
--- what holds of every soft part
-abbrev pub CallKeeps : Type 0
-CallKeeps =
-    (parent level : ℕ) (call : Call) (children : List ℕ) (w : State) → CanBegin level call children w
-    → IsKept (left_by_call parent level call children w).soft
+-- Supported always does.
+abbrev pub SupportedLeaves : Type 0
+SupportedLeaves =
+    (settings : Settings) (room : ℕ) (scope : Scope) (call : Call) (children : List ℕ) (w : State) → call.kind ≡ Supported
+    → (left_by_call settings room scope call children w).soft ≡ w.soft
 
 -- the task priority level is as it was
-abbrev pub CallKeepsTpl : Type 0
-CallKeepsTpl =
-    (parent level : ℕ) (call : Call) (children : List ℕ) (w : State) → (left_by_call parent level call children w).soft.tpl ≡ w.soft.tpl
+abbrev pub CallsLeaveTpl : Type 0
+CallsLeaveTpl =
+    (settings : Settings) (room : ℕ) (scope : Scope) (call : Call) (children : List ℕ) (w : State)
+    → (left_by_call settings room scope call children w).soft.tpl ≡ w.soft.tpl
 
 -- the event of a call that ended so
-abbrev pub event_of : (parent : ℕ) → Call → Outcome → (serial : ℕ) → Event
-event_of parent call outcome serial = record {
+abbrev pub event_of : Scope → Call → Outcome → (serial : ℕ) → Event
+event_of scope call outcome serial = record {
   serial = serial;
-  parent = parent;
-  kind = call.kind;
+  parent = scope.event;
+  kind = event_kind call.kind;
   driver = call.driver;
   controller = call.controller;
   extra = call.extra;
   result = outcome;
 }
 
--- it adds its event to those of before, unless its price is more than it may spend
-abbrev pub CallAddsEvent : Type 0
-CallAddsEvent =
-    (parent level : ℕ) (call : Call) (children : List ℕ) (w : State) → are_numbered 1 w.hard.events ≡ true
-    → (left_by_call parent level call children w).hard.events
-    ≡ (if nat_le CALL_PRICE (allowance w) then w.hard.events ++ event_of parent call (outcome_of parent level call children w) (next_serial w.hard) ∷ [] else w.hard.events)
+-- After the events of before comes the call's own event, unless it may not spend its price; those of what it calls follow.
+abbrev pub CallsHaveTheirEvent : Type 0
+CallsHaveTheirEvent =
+    (settings : Settings) (room : ℕ) (scope : Scope) (call : Call) (children : List ℕ) (w : State)
+    → room < MOST_LEVELS → has_sixteen call.slots ≡ true → nat_le CALL_PRICE (allowance settings w) ≡ true
+    → slice_get (left_by_call settings room scope call children w).hard.events (length w.hard.events)
+    ≡ Some (event_of scope call (outcome_of_call settings room scope call children w) (next_serial w.hard))
 
--- units never rise, and the event is paid
-abbrev pub CallSpends : Type 0
-CallSpends = (parent level : ℕ) (call : Call) (children : List ℕ) (w : State) → Spends w (left_by_call parent level call children w)
+-- ---- searches
+
+-- the list that a search goes down
+abbrev pub search_list : Settings → Connection → (context marked : List ℕ) → State → List BindingBlock
+search_list settings c context marked w = unmarked marked (order c.controller context (platform_list settings c.controller) w.soft)
+
+-- it has each driver once, and none that is marked
+abbrev pub SearchListIsUnmarked : Type 0
+SearchListIsUnmarked =
+    (settings : Settings) (c : Connection) (context marked : List ℕ) (w : State)
+    → (is_each_once (search_list settings c context marked w) ≡ true) × (list_any (is_marked marked) (search_list settings c context marked w) ≡ false)
+
+-- a search that finds no driver leaves the soft part that it found
+abbrev pub SearchWithoutSuccessLeaves : Type 0
+SearchWithoutSuccessLeaves =
+    (settings : Settings) (room : ℕ) (scope : Scope) (c : Connection) (context marked : List ℕ) (w v : State)
+    → found plain settings (level_over plain settings (level_with room) (below plain settings room)) scope c context marked w ≡ (None, v) → v.soft ≡ w.soft

@@ -1,100 +1,176 @@
--- A driver call: UEFI 2.8, 4.1 'UEFI Image Entry Point'. So far only the entry points of images are called,
--- and never by another driver.
-use Rattle.std.specs.Prelude.{ℕ, Bool, false, min, nat_lt, not, List, [], ◌∷◌, replicate, if◌then◌else◌}
-use Rattle.fw_types.specs.Status.{is_error}
-use Rattle.fw_types.specs.declared.limits.TheConstants.{CALL_BUDGET, CALL_PRICE}
-use Rattle.fw_types.specs.declared.event.Cause.TheVariants.{Budget}
-use Rattle.fw_types.specs.declared.event.EventKind.TheVariants.{Entry}
+-- A driver call: of an image's entry point (UEFI 2.8, 4.1: EFI_IMAGE_ENTRY_POINT) or Unload (9.1: EFI Loaded Image
+-- Protocol), or of a driver's Supported, Start or Stop (11.1: EFI Driver Binding Protocol).
+--
+-- The rules, in their order:
+--  1. A call may spend the smaller of the call budget and what its caller has left. If that is less than its price, the
+--     outcome is the trap Budget, nothing is spent and there is no event (`allowance`, `called`).
+--  2. The price is paid, and the event begins (`begun`).
+--  3. What is called (`code_of`): the entry point of an image; a live thunk; the bus driver's own function, by its own
+--     binding; one of these functions in any other binding, which answers UNSUPPORTED; anything else traps with BadCall.
+--  4. The code runs on a new stack of its level, with its arguments (`ran_on_stack`).
+--  5. It ends with the value of R7, or with a trap, which ends the innermost driver call (`entered_by`).
+--  6. The task priority level is as at the beginning, and the event ends (`ended`). Supported never commits. The other
+--     kinds commit exactly if the value has bit 63 clear. A call that does not commit leaves the soft part as it was when
+--     it began. Units and events are never undone (`kept_or_undone`).
+use Rattle.std.specs.Prelude.{ℕ, Bool, false, ◌&&◌, min, nat_eq, nat_lt, not, List, [], ◌∷◌, Option, Some, None, if◌then◌else◌}
+use Rattle.std.specs.List.{list_any}
+use Rattle.fw_types.specs.declared.event.Cause.TheVariants.{BadCall, Budget}
+use Rattle.fw_types.specs.declared.event.EventKind.{EventKind}
+use Rattle.fw_types.specs.declared.event.EventKind.TheVariants as event
 use Rattle.fw_types.specs.declared.event.Outcome.{Outcome}
 use Rattle.fw_types.specs.declared.event.Outcome.TheVariants.{Value, Trapped}
+use Rattle.fw_types.specs.declared.limits.TheConstants.{CALL_PRICE}
+use Rattle.fw_types.specs.declared.status.TheConstants.Status.{UNSUPPORTED}
+use Rattle.guest_memory.specs.declared.address_map.TheConstants.{BUS_BINDING, BUS_START, BUS_STOP, BUS_SUPPORTED}
 use Rattle.ebc_machine.specs.declared.cpu.Cpu.{Cpu}
-use Rattle.guest_memory.specs.declared.address_map.TheConstants.{SYSTEM_TABLE}
-use Rattle.world_model.specs.World.{Soft, State, on_hard, on_soft, with_tpl}
-use Rattle.world_model.specs.Units.{units_aside, units_capped, units_returned, units_spent}
-use Rattle.world_model.specs.Events.{event_begun, event_ended, next_serial}
-use Rattle.world_model.specs.Stacks.{frame, stack_popped, stack_pushed}
-use Rattle.driver_model.specs.declared.call.Call.{Call}
+use Rattle.world_model.specs.World.{Soft, State}
+use Rattle.world_model.specs.Interfaces.{bus_driver}
+use Rattle.world_model.specs.Units.{units_aside}
+use Rattle.world_model.specs.Events.{next_serial}
+use Rattle.world_model.specs.Stacks.{frame}
+use Rattle.world_model.specs.Thunks.{thunk_at}
+use Rattle.driver_model.specs.Moves.{Operations, begins_event, caps, ends_event, pays, pops, pushes, puts_back, returns, sets_tpl}
+use Rattle.driver_model.specs.Level.{Level}
+use Rattle.driver_model.specs.Activations.{is_success, next_scope}
 use Rattle.driver_model.specs.GuestRun.{run}
+use Rattle.driver_model.specs.declared.call.Call.{Call}
+use Rattle.driver_model.specs.declared.call.CallKind.{CallKind}
+use Rattle.driver_model.specs.declared.call.CallKind.TheVariants.{Entry, Supported, Start, Stop, Unload}
+use Rattle.driver_model.specs.declared.call.Code.{Code}
+use Rattle.driver_model.specs.declared.call.Code.TheVariants.{Ebc, BusDriver, Foreign, NoCode}
+use Rattle.driver_model.specs.declared.call.RunEnd.{RunEnd}
+use Rattle.driver_model.specs.declared.call.RunEnd.TheVariants.{Returned, Over}
+use Rattle.driver_model.specs.declared.call.Scope.{Scope}
+use Rattle.driver_model.specs.declared.settings.Settings.{Settings}
 
--- the level of a call that no driver made
-abbrev pub first_level : ℕ
-first_level = 1
+-- ---- rule 1
 
--- ---- the call
+abbrev pub allowance : Settings → State → ℕ
+allowance settings w = min settings.call_budget w.hard.units
 
--- what the caller lets a call spend
-abbrev pub allowance : State → ℕ
-allowance w = min CALL_BUDGET w.hard.units
+-- ---- rule 3
 
--- no more than that is left while the call lasts; its price is paid, and its event begins
-abbrev pub begun : (parent : ℕ) → Call → State → State
-begun parent call w =
-    on_hard (event_begun parent call.kind call.driver call.controller call.extra)
-    (on_hard (units_spent CALL_PRICE) (on_hard (units_capped CALL_BUDGET) w))
+-- the bus driver's function of a kind
+abbrev pub bus_function : CallKind → Option ℕ
+bus_function Supported = Some BUS_SUPPORTED
+bus_function Start = Some BUS_START
+bus_function Stop = Some BUS_STOP
+bus_function Entry = None
+bus_function Unload = None
 
--- the registers as its code begins: IP is at the entry, and R0 at the frame of its stack
-abbrev pub call_cpu : (level : ℕ) → Call → Cpu
-call_cpu level call = record (frame level) { ip = call.entry }
+abbrev pub is_address : ℕ → Option ℕ → Bool
+is_address at None = false
+is_address at (Some address) = nat_eq at address
 
--- the stack goes, and the list of children beside it
-abbrev pub popped : (level : ℕ) → Outcome × State → Outcome × State
-popped level (outcome, w) = (outcome, on_soft (stack_popped level) w)
+-- whether the bus driver's function of the kind is called by its own binding
+abbrev pub is_bus_driver_call : Call → Bool
+is_bus_driver_call call = nat_eq call.driver bus_driver && nat_eq call.binding BUS_BINDING && is_address call.address (bus_function call.kind)
 
--- its code runs on a new stack, until it is done or traps
-abbrev pub ran_on_stack : (level : ℕ) → Call → (children : List ℕ) → State → Outcome × State
-ran_on_stack level call children w =
-    popped level (run level (call_cpu level call) (on_soft (stack_pushed level call.slots children) w))
+abbrev pub is_bus_address : ℕ → Bool
+is_bus_address at = list_any (nat_eq at) (BUS_SUPPORTED ∷ BUS_START ∷ BUS_STOP ∷ [])
 
--- the task priority level is as when the call began, its event ends, and what it might not spend is the
--- caller's again
-abbrev pub ended : (before : State) → Outcome × State → Outcome × State
-ended before (outcome, w) = (
-  outcome,
-  on_hard (units_returned (units_aside CALL_BUDGET before.hard))
-      (on_hard (event_ended (next_serial before.hard) outcome) (on_soft (with_tpl before.soft.tpl) w)),
-)
+abbrev pub code_by : (thunk : Option ℕ) → Call → Code
+code_by (Some entry) call = Ebc entry
+code_by None call =
+    if is_bus_driver_call call then BusDriver
+    else if not (nat_eq call.binding 0) && is_bus_address call.address then Foreign
+    else NoCode
 
--- a call at a level, inside an event; with less than its price it traps with no event, and spends nothing
-unfoldable pub call_made : (parent level : ℕ) → Call → (children : List ℕ) → State → Outcome × State
-call_made parent level call children w =
-    if nat_lt (allowance w) CALL_PRICE then (Trapped Budget, w)
-    else ended w (ran_on_stack level call children (begun parent call w))
+-- an entry point is called at its address, all else by a thunk or as native code
+abbrev pub code_for : CallKind → Call → Soft → Code
+code_for Entry call soft = Ebc call.address
+code_for Supported call soft = code_by (thunk_at call.address soft) call
+code_for Start call soft = code_by (thunk_at call.address soft) call
+code_for Stop call soft = code_by (thunk_at call.address soft) call
+code_for Unload call soft = code_by (thunk_at call.address soft) call
 
--- ---- what it leaves
+unfoldable pub code_of : Call → Soft → Code
+code_of call soft = code_for call.kind call soft
 
--- whether a call of an entry commits what it did: only if its value is no error
-abbrev pub commits : Outcome → Bool
-commits (Value status) = not (is_error status)
-commits (Trapped cause) = false
+-- ---- rule 2
 
--- the soft part of before
-abbrev pub undone : Soft → State → State
-undone before w = record w { soft = before }
+-- the kind of the call's event
+abbrev pub event_kind : CallKind → EventKind
+event_kind Entry = event.Entry
+event_kind Supported = event.Supported
+event_kind Start = event.Start
+event_kind Stop = event.Stop
+event_kind Unload = event.Unload
 
--- what did not commit leaves the soft part as it was
-abbrev pub kept_or_undone : Soft → Outcome × State → Outcome × State
-kept_or_undone before (outcome, w) = (outcome, if commits outcome then w else undone before w)
+-- ---- rule 6
 
--- ---- entries
+abbrev pub commits : CallKind → Outcome → Bool
+commits Supported outcome = false
+commits Entry outcome = is_success outcome
+commits Start outcome = is_success outcome
+commits Stop outcome = is_success outcome
+commits Unload outcome = is_success outcome
 
--- the arguments of an entry (EFI_IMAGE_ENTRY_POINT): the image's handle and the system table
-abbrev pub entry_slots : (image : ℕ) → List ℕ
-entry_slots image = image ∷ SYSTEM_TABLE ∷ replicate 14 0
+-- ---- rule 5
 
-abbrev pub entry_call : (image entry : ℕ) → Call
-entry_call image entry = record {
-  kind = Entry;
-  driver = image;
-  controller = 0;
-  extra = 0;
-  entry = entry;
-  slots = entry_slots image;
-}
+-- how a call ends whose run ends so
+abbrev pub outcome_of : RunEnd → Outcome
+outcome_of (Returned value) = Value (record { 0 = value })
+outcome_of (Over outcome) = outcome
 
--- the call of an image's entry by no driver, up to its commit
-abbrev pub entry_made : (image entry : ℕ) → State → Outcome × State
-entry_made image entry w = call_made 0 first_level (entry_call image entry) [] w
+-- ---- rule 4
 
--- and whole
-abbrev pub entry_called : (image entry : ℕ) → State → Outcome × State
-entry_called image entry w = kept_or_undone w.soft (entry_made image entry w)
+-- the registers at the beginning of a run on a new stack: IP is at the entry, and R0 at the frame
+abbrev pub entry_cpu : (level entry : ℕ) → Cpu
+entry_cpu level entry = record (frame level) { ip = entry }
+
+module _ {S : Type 0} (o : Operations S) where
+  abbrev pub popped : (level : ℕ) → RunEnd × S → RunEnd × S
+  popped level r = (r.0, o.make (pops level) r.1)
+
+  -- the stack has the arguments, and the list of children beside it
+  unfoldable pub ran_on_stack : Settings → Option (Level S) → Scope → (level entry : ℕ) → (slots children : List ℕ) → S → RunEnd × S
+  ran_on_stack settings below scope level entry slots children w =
+      popped level (run o settings below scope level (entry_cpu level entry) (o.make (pushes level slots children) w))
+
+  abbrev pub with_outcome : RunEnd × S → Outcome × S
+  with_outcome r = (outcome_of r.0, r.1)
+
+  -- the bus driver's own functions are not built yet
+  abbrev pub entered_by : Code → Settings → Option (Level S) → Scope → (level : ℕ) → Call → (children : List ℕ) → S → Outcome × S
+  entered_by (Ebc entry) settings below scope level call children w =
+      with_outcome (ran_on_stack settings below scope level entry call.slots children w)
+  entered_by BusDriver settings below scope level call children w = (Value UNSUPPORTED, w)
+  entered_by Foreign settings below scope level call children w = (Value UNSUPPORTED, w)
+  entered_by NoCode settings below scope level call children w = (Trapped BadCall, w)
+
+  unfoldable pub entered : Settings → Option (Level S) → Scope → (level : ℕ) → Call → (children : List ℕ) → S → Outcome × S
+  entered settings below scope level call children w =
+      entered_by (code_of call (o.see w).soft) settings below scope level call children w
+
+  -- ---- rules 1, 2 and 6: around the code
+
+  -- no more units than the allowance are left while the call lasts
+  abbrev pub begun : Settings → Scope → Call → S → S
+  begun settings scope call w =
+      o.make (begins_event scope.event (event_kind call.kind) call.driver call.controller call.extra)
+      (o.make (pays CALL_PRICE) (o.make (caps settings.call_budget) w))
+
+  -- and what it was not allowed to spend is the caller's again
+  abbrev pub ended : Settings → (before : State) → Outcome × S → Outcome × S
+  ended settings before r = (
+    r.0,
+    o.make (returns (units_aside settings.call_budget before.hard))
+        (o.make (ends_event (next_serial before.hard) r.0) (o.make (sets_tpl before.soft.tpl) r.1)),
+  )
+
+  abbrev pub kept_or_undone : CallKind → (before : Soft) → Outcome × S → Outcome × S
+  kept_or_undone kind before r = (r.0, if commits kind r.0 then r.1 else o.make (puts_back before) r.1)
+
+  -- ---- all rules
+
+  unfoldable pub called : Settings → Option (Level S) → (level : ℕ) → Scope → Call → (children : List ℕ) → S → Outcome × S
+  called settings below level scope call children w =
+      if nat_lt (allowance settings (o.see w)) CALL_PRICE then (Trapped Budget, w)
+      else kept_or_undone call.kind (o.see w).soft
+      (ended settings (o.see w) (entered settings below (next_scope o w) level call children (begun settings scope call w)))
+
+  -- ---- a thunk that a driver calls is no driver call: its code runs on a stack of its level, in the caller's event
+
+  abbrev pub thunk_ran : Settings → Option (Level S) → (level : ℕ) → Scope → (entry : ℕ) → (slots : List ℕ) → S → RunEnd × S
+  thunk_ran settings below level scope entry slots w = ran_on_stack settings below scope level entry slots [] w

@@ -1,21 +1,35 @@
--- Native calls: UEFI 2.8, chapter 22 'EFI Byte Code Virtual Machine', 'CALL'. Whatever native code a
--- driver can reach is the firmware's own.
-use Rattle.std.specs.Prelude.{ℕ, Bool, nat_eq, List, [], ◌∷◌, Option, Some, None, if◌then◌else◌}
-use Rattle.std.specs.List.{list_any}
-use Rattle.fw_types.specs.declared.event.Cause.TheVariants.{BadCall, Fetch}
-use Rattle.fw_types.specs.declared.event.Outcome.TheVariants.{Trapped}
-use Rattle.ebc_machine.specs.declared.cpu.Cpu.{Cpu}
+-- Native calls (UEFI 2.8, chapter 22 'EFI Byte Code Virtual Machine', CALL). All native code that a driver can reach is
+-- the firmware's own: its services, the bus driver's functions, and thunks, which enter EBC code.
+use Rattle.std.specs.Prelude.{ℕ, Bool, nat_eq, List, [], ◌∷◌, map, Option, Some, None, unwrap_or, if◌then◌else◌}
+use Rattle.std.specs.List.{list_any, range_with_len}
+use Rattle.fw_types.specs.declared.event.Cause.TheVariants.{BadCall, Budget, Fetch, Nest}
+use Rattle.fw_types.specs.declared.limits.TheConstants.{CALL_PRICE}
+use Rattle.guest_memory.specs.GuestMemory.{number_of}
+use Rattle.guest_memory.specs.declared.address_map.TheConstants.{BUS_GET_DRIVER, BUS_START, BUS_STOP, BUS_SUPPORTED}
 use Rattle.ebc_machine.specs.Operands.{register, with_register}
+use Rattle.ebc_machine.specs.declared.cpu.Cpu.{Cpu}
+use Rattle.service_thunks.specs.Arguments.{slot_at}
 use Rattle.service_thunks.specs.Services.{service_of}
 use Rattle.service_thunks.specs.declared.service.Service.{Service}
 use Rattle.service_thunks.specs.declared.service.Service.TheVariants.{Unbuilt}
-use Rattle.guest_memory.specs.declared.address_map.TheConstants.{BUS_GET_DRIVER, BUS_START, BUS_STOP, BUS_SUPPORTED}
 use Rattle.world_model.specs.World.{State}
+use Rattle.world_model.specs.World.{Soft}
+use Rattle.world_model.specs.Thunks.{thunk_at}
 use Rattle.service_model.specs.BootServices.{is_boot_service, served}
 use Rattle.service_model.specs.declared.call.Caller.{Caller}
 use Rattle.service_model.specs.declared.call.Served.{Served}
-use Rattle.service_model.specs.declared.call.Served.TheVariants.{Value, Trap, Again}
-use Rattle.driver_model.specs.Turn.{Turn, ends, goes_on}
+use Rattle.service_model.specs.declared.call.Served.TheVariants as served_as
+use Rattle.driver_model.specs.Moves.{Operations, pays, serves}
+use Rattle.driver_model.specs.Level.{Level}
+use Rattle.driver_model.specs.Activations.{is_short}
+use Rattle.driver_model.specs.GoingOn.{gone_on}
+use Rattle.driver_model.specs.Turn.{Turn, ends, goes_on, traps}
+use Rattle.driver_model.specs.declared.call.Callee.{Callee}
+use Rattle.driver_model.specs.declared.call.Callee.TheVariants.{AService, AThunk, Nothing}
+use Rattle.driver_model.specs.declared.call.RunEnd.{RunEnd}
+use Rattle.driver_model.specs.declared.call.RunEnd.TheVariants.{Returned, Over}
+use Rattle.driver_model.specs.declared.call.Scope.{Scope}
+use Rattle.driver_model.specs.declared.settings.Settings.{Settings}
 
 -- ---- what is at an address
 
@@ -28,33 +42,66 @@ is_bus_function at = list_any (nat_eq at) bus_functions
 
 -- the functions of PCI I/O are not built yet
 abbrev pub available : Service → Service
-available s = if is_boot_service s then s else Unbuilt
+available service = if is_boot_service service then service else Unbuilt
 
--- A boot service; or one that is not built, for a function of PCI I/O or of the bus driver; or nothing. A
--- live thunk is not called yet.
-abbrev pub callee_by : Option Service → ℕ → Option Service
-callee_by (Some s) at = Some (available s)
-callee_by None at = if is_bus_function at then Some Unbuilt else None
+abbrev pub thunk_or_nothing : Option ℕ → Callee
+thunk_or_nothing (Some entry) = AThunk entry
+thunk_or_nothing None = Nothing
 
-unfoldable pub callee : ℕ → Option Service
-callee at = callee_by (service_of at) at
+-- a service; a function of the bus driver, which a driver may not call, so that it answers as a service that is not
+-- built; a live thunk; or nothing
+abbrev pub callee_by : Option Service → (at : ℕ) → Soft → Callee
+callee_by (Some service) at soft = AService (available service)
+callee_by None at soft = if is_bus_function at then AService Unbuilt else thunk_or_nothing (thunk_at at soft)
 
--- ---- the call
+unfoldable pub callee : (at : ℕ) → Soft → Callee
+callee at soft = callee_by (service_of at) at soft
 
--- The value of a service goes to R7, and the other registers are kept; or its trap ends the run. No service
--- that is built goes on (`service_model::laws::services_end`), so what a run does then is not yet said: it
--- would end, as if nothing were at the address.
-abbrev pub returned : Cpu → Served × State → Turn
-returned cpu (Value value, w) = goes_on (with_register cpu 7 value) w
-returned cpu (Trap cause, w) = ends (Trapped cause) cpu w
-returned cpu (Again reentry, w) = ends (Trapped BadCall) cpu w
+-- ---- the arguments
 
--- who calls: the image, at this level, with its arguments from R0 on
+-- who calls a service: the image, at this level, with its arguments from R0 on
 abbrev pub caller : (image level : ℕ) → Cpu → Caller
 caller image level cpu = record { image = image; level = level; sp = register cpu 0 }
 
--- A service is called by the image that held the instruction. No code runs outside of an image.
-abbrev pub native_called : Option Service → (image : Option ℕ) → (level : ℕ) → Cpu → State → Turn
-native_called None image level cpu w = ends (Trapped BadCall) cpu w
-native_called (Some s) None level cpu w = ends (Trapped Fetch) cpu w
-native_called (Some s) (Some image) level cpu w = returned cpu (served s (caller image level cpu) w)
+-- the caller's 16 arguments, as a thunk gets them; one that can't be read is 0
+abbrev pub passed_slots : Cpu → State → List ℕ
+passed_slots cpu w = map (λ i. unwrap_or (number_of w.soft.memory (slot_at (register cpu 0) i) 8) 0) (range_with_len 0 16)
+
+module _ {S : Type 0} (o : Operations S) where
+  -- ---- a service
+
+  -- the value goes to R7, and the other registers keep theirs
+  abbrev pub returned : Cpu → Served × S → Turn S
+  returned cpu (served_as.Value value, w) = goes_on (with_register cpu 7 value) w
+  returned cpu (served_as.Trap cause, w) = traps cause cpu w
+  -- no service goes on twice
+  returned cpu (served_as.Again reentry, w) = goes_on cpu w
+
+  -- a service is called by the image that holds the instruction; no code runs outside of an image
+  abbrev pub service_called : Settings → Option (Level S) → Scope → (level : ℕ) → Service → (image : Option ℕ) → Cpu → S → Turn S
+  service_called settings below scope level service None cpu w = traps Fetch cpu w
+  service_called settings below scope level service (Some image) cpu w =
+      returned cpu (gone_on o settings below scope
+      ((served service (caller image level cpu) (o.see w)).0, o.make (serves service (caller image level cpu)) w))
+
+  -- ---- a thunk: a price, the next level, no event and no mark
+
+  -- a trap in it ends the caller's driver call too
+  abbrev pub thunk_returned : Cpu → RunEnd × S → Turn S
+  thunk_returned cpu (Returned value, w) = goes_on (with_register cpu 7 value) w
+  thunk_returned cpu (Over outcome, w) = ends (Over outcome) cpu w
+
+  abbrev pub thunk_entered : Option (Level S) → Scope → (entry : ℕ) → Cpu → S → Turn S
+  thunk_entered None scope entry cpu w = traps Nest cpu w
+  thunk_entered (Some below) scope entry cpu w = thunk_returned cpu (below.thunk scope entry (passed_slots cpu (o.see w)) w)
+
+  abbrev pub thunk_called : Option (Level S) → Scope → (entry : ℕ) → Cpu → S → Turn S
+  thunk_called below scope entry cpu w =
+      if is_short o w then traps Budget cpu w else thunk_entered below scope entry cpu (o.make (pays CALL_PRICE) w)
+
+  -- ---- the call
+
+  abbrev pub native_called : Settings → Option (Level S) → Scope → (level : ℕ) → Callee → (image : Option ℕ) → Cpu → S → Turn S
+  native_called settings below scope level (AService service) image cpu w = service_called settings below scope level service image cpu w
+  native_called settings below scope level (AThunk entry) image cpu w = thunk_called below scope entry cpu w
+  native_called settings below scope level Nothing image cpu w = traps BadCall cpu w

@@ -1,71 +1,68 @@
-//! Laws of runs and of driver calls, over the definitions alone. Each is the contract of a function with
-//! no work of its own.
+//! Laws of the driver model, over the definitions alone: what driver calls, runs, activations and
+//! loads leave, whatever they call on the levels below. Each is the contract of a function with no
+//! code.
 
-ghost use Rattle.driver_model.specs.CallLaws.{CallAddsEvent, CallKeeps, CallKeepsFixed, CallKeepsStacks, CallKeepsTpl, CallSpends};
-ghost use Rattle.driver_model.specs.RunLaws.{GoingOnCosts, MoreTurnsChangeNothing, RunEventsStay, RunIsTurnAndRun, RunKeeps, RunKeepsFixed, RunKeepsStacks, RunUnitsNeverRise, RunsAreChains, TurnUnitsNeverRise};
+ghost use Rattle.driver_model.specs.Staying.{
+  CallsStay,
+  ConnectsStay,
+  DisconnectsStay,
+  FreeStays,
+  LoadsStay,
+  ManyUninstallsStay,
+  NoPathStays,
+  PathStaysAlone,
+  RemovalsStay,
+  RestCanRun,
+  RunsStay,
+  ServicesGoingOnStay,
+  StepsLeaveStacks,
+  ThunksStay,
+  TurnsStay,
+  UninstallsStay,
+};
 
-use service_model::laws::{services_keep, services_leave};
-use world_model::laws::{changes_keep, fixed_segments_stay, stacks_stand};
-
-/// A run goes on turn by turn, and each turn after which it goes on leaves fewer units; so no run ends
-/// because its turns run out.
-pub fn runs_go_on()
-    ensures costs { GoingOnCosts }
-    ensures turns { MoreTurnsChangeNothing }
-    ensures run { RunIsTurnAndRun }
-    ensures units { TurnUnitsNeverRise }
-{
-    services_leave();
-}
-
-/// A run changes the state by steps, by services and by the making of thunks, and by the units that they
-/// cost.
-pub fn runs_are_chains()
-    ensures { RunsAreChains }
+/// If no stack of a later level is there, a driver call, a thunk, a run of EBC code and each of its
+/// turns (UEFI 2.8, 11.1 and chapter 22) leave what holds of every world, and the same stacks. No
+/// byte of a segment that code may not write changes while the segment is mapped.
+pub fn calls_and_runs_stay()
+    ensures calls { CallsStay }
+    ensures thunks { ThunksStay }
+    ensures runs { RunsStay }
+    ensures turns { TurnsStay }
 {}
 
-/// What a run leaves as it was: the events. Units never rise.
-pub fn runs_leave()
-    ensures units { RunUnitsNeverRise }
-    ensures events { RunEventsStay }
-{
-    runs_are_chains();
-    services_leave();
-}
+/// If no stack of a later level is there, ConnectController and DisconnectController leave what
+/// holds of every world, and the same stacks, and so do a driver's OpenProtocol that removes a
+/// driver and its uninstall that reconnects (UEFI 2.8, 7.3). No byte of a segment that code may not
+/// write changes while the segment is mapped.
+pub fn activations_stay()
+    ensures connects { ConnectsStay }
+    ensures disconnects { DisconnectsStay }
+    ensures removals { RemovalsStay }
+    ensures uninstalls { UninstallsStay }
+    ensures many_uninstalls { ManyUninstallsStay }
+    ensures services { ServicesGoingOnStay }
+{}
 
-/// What a run keeps: what holds of every soft part; all stacks; and each segment that code may not write,
-/// with its bytes.
-pub fn runs_keep()
-    ensures kept { RunKeeps }
-    ensures stacks { RunKeepsStacks }
-    ensures fixed_segments { RunKeepsFixed }
-{
-    runs_are_chains();
-    services_keep();
-    changes_keep();
-    stacks_stand();
-    fixed_segments_stay();
-}
+/// If no stack of a later level is there, the load of an image (UEFI 2.8, 7.4: LoadImage and
+/// StartImage) leaves what holds of every world, and the same stacks, whether its entry point
+/// succeeds or not. No byte of a segment that code may not write changes while the segment is
+/// mapped.
+pub fn loads_stay()
+    ensures { LoadsStay }
+{}
 
-/// What a driver call leaves as it was: the task priority level. It adds one event to those of before,
-/// which is paid, and units never rise.
-pub fn calls_leave()
-    ensures tpl { CallKeepsTpl }
-    ensures event { CallAddsEvent }
-    ensures spends { CallSpends }
-{
-    runs_leave();
-}
+/// Between commands no stack is there, and each level can run. Levels that have no stack have none
+/// later, as long as the stacks stay, and a step leaves all stacks.
+pub fn levels_can_run()
+    ensures rest { RestCanRun }
+    ensures free { FreeStays }
+    ensures steps { StepsLeaveStacks }
+{}
 
-/// What a driver call keeps: what holds of every soft part; all stacks; and each segment that code may
-/// not write, with its bytes.
-pub fn calls_keep()
-    ensures kept { CallKeeps }
-    ensures stacks { CallKeepsStacks }
-    ensures fixed_segments { CallKeepsFixed }
-{
-    runs_keep();
-    changes_keep();
-    stacks_stand();
-    fixed_segments_stay();
-}
+/// What a command runs leaves the place of the command's device path as it was: without one, or with
+/// nothing but one.
+pub fn command_paths_stay()
+    ensures none { NoPathStays }
+    ensures alone { PathStaysAlone }
+{}

@@ -1,13 +1,27 @@
-//! The definitions of guest runs and of driver calls, and their laws.
+//! The definitions of the driver model: driver calls, runs of EBC code, ConnectController and DisconnectController,
+//! opens that remove a driver, uninstalls that reconnect, and the load and unload of images (UEFI 2.8, 7.3, 7.4, 9.1,
+//! 11.1 and chapter 22).
 //!
-//! `specs/GuestRun.antt` has a run of a driver's code, turn by turn: a step of EBC, and what the step
-//! asks for, which is a native call (`specs/NativeCalls.antt`) or a thunk (`specs/ThunkRequests.antt`).
-//! `specs/DriverCall.antt` has the call of a driver, whose code runs on a stack of its own with a budget
-//! of its own. `laws` says what runs and calls leave. Code stands here only where definitions and code
-//! share a plain type.
+//! `specs/Moves.antt` has each change that they make, as a word. `specs/Level.antt` is what a level asks of the next one:
+//! a driver calls services that call drivers, 32 levels deep. `specs/Connect.antt`, `Disconnect.antt`,
+//! `OpenWithRemoval.antt` and `UninstallWithReconnection.antt` are the rules of the services that go on, and
+//! `specs/GuestRun.antt` and `DriverCall.antt` those of runs and calls. `specs/Levels.antt` ties the levels together.
+//! `laws`, `call_laws` and `unload_laws` say what they leave, `fuel_laws` that no run ends because its turns run out, and
+//! `order_laws` what holds of the order of drivers and of searches. There is code only where definitions and code share a
+//! plain type.
 #![tactic(auto)]
 
+mod binding;
 mod call;
+pub mod call_laws;
+pub mod fuel_laws;
 pub mod laws;
+pub mod order_laws;
+mod request;
+mod settings;
+pub mod unload_laws;
 
-pub use call::Call;
+pub use binding::{BINDING_SIZE, BindingBlock};
+pub use call::{Call, CallKind, Callee, Code, RunEnd, Scope};
+pub use request::{Connection, Disconnection, StopTurn};
+pub use settings::{PlatformList, Settings};

@@ -1,4 +1,5 @@
 pub mod Attr
+pub mod Commands
 pub mod Guid
 pub mod Layout
 pub mod Status

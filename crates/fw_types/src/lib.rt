@@ -21,7 +21,7 @@ mod status;
 mod text;
 
 pub use attr::Attr;
-pub use command::Command;
+pub use command::{Command, PathArg};
 pub use dump::DumpLine;
 pub use event::{Cause, Event, EventKind, Outcome};
 pub use guid::{Guid, Known};
@@ -32,9 +32,9 @@ pub use image::{
 };
 pub use layout::{put_bytes, put_u16, put_u32, put_u64};
 pub use limits::{
-    CALL_BUDGET, CALL_PRICE, COMMAND_BUDGET, HANDLE_NUMBER_END, MOST_BLOCKS, MOST_BYTES,
-    MOST_FILE_BYTES, MOST_HANDLES, MOST_INTERFACES, MOST_LEVELS, MOST_LISTED, MOST_MARKS,
-    MOST_RECORDS, MOST_THUNKS,
+    CALL_BUDGET, CALL_PRICE, COMMAND_BUDGET, HANDLE_NUMBER_END, LEAST_CALL_BUDGET,
+    LEAST_COMMAND_BUDGET, MOST_BLOCKS, MOST_BUDGET, MOST_BYTES, MOST_FILE_BYTES, MOST_HANDLES,
+    MOST_INTERFACES, MOST_LEVELS, MOST_LISTED, MOST_MARKS, MOST_RECORDS, MOST_THUNKS,
 };
 pub use memory::OutOfMemory;
 pub use reply::Reply;

@@ -41,5 +41,14 @@ pub const COMMAND_BUDGET: u32 = 4_194_304;
 /// The units that a driver call may spend at first.
 pub const CALL_BUDGET: u32 = 1_048_576;
 
+/// The fewest units that a `budget` line may give to a command.
+pub const LEAST_COMMAND_BUDGET: u32 = 1;
+
+/// The fewest units that a `budget` line may give to a driver call.
+pub const LEAST_CALL_BUDGET: u32 = 64;
+
+/// The most units that a `budget` line may give to a command or to a driver call.
+pub const MOST_BUDGET: u32 = 33_554_432;
+
 /// The units that a driver call and an activation of Connect or Disconnect cost.
 pub const CALL_PRICE: u64 = 64;

@@ -41,9 +41,11 @@ impl<T> Rows<T> {
         self.items.as_slice()
     }
 
-    /// Puts a value behind the others.
+    /// Adds a value after the others.
     ///
-    /// `OutOfMemory` where there is no memory for it. The values are then as before.
+    /// # Errors
+    ///
+    /// `OutOfMemory` if there is no memory for it. The values are then as before.
     pub fn push(&mut self, value: T) -> Result<(), OutOfMemory>
     where
         T: Drop,
@@ -62,7 +64,7 @@ impl<T> Rows<T> {
         self.items.remove(place)
     }
 
-    /// Copies values over those that stand from a place on. Takes no memory.
+    /// Copies values over those from a place on. Takes no memory.
     pub fn replace(&mut self, at: usize, values: &[T])
     where
         T: Copy,

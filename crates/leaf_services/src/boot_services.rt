@@ -2,7 +2,7 @@
 ghost use Rattle.std.specs.Prelude.{◌≡◌, ◌≤◌, ◌%◌, ◌^◌, IfOk, OnOk, false, true};
 ghost use Rattle.service_thunks.specs.Arguments.{most_arguments};
 ghost use Rattle.service_model.specs.Allowed.{is_allowed};
-ghost use Rattle.service_model.specs.Untouched.{goes_on};
+ghost use Rattle.service_model.specs.Untouched.{goes_on, may_go_on};
 ghost use Rattle.service_model.specs.BootServices.{end_of_row, is_boot_service, pool_price, priced_after, priced_first, row, served, with_arguments, with_price};
 
 use crate::changes::apply;
@@ -10,6 +10,7 @@ use fw_types::{Cause, MOST_BYTES, OutOfMemory};
 use fw_world::World;
 use service_model::laws::{rows_are_allowed, services_end};
 use service_model::{Caller, Change, Served, Stop};
+use service_rows::connecting::{connect_controller, disconnect_controller};
 use service_rows::many::{first_pair, install_multiple};
 use service_rows::protocols::{
     close, handle_protocol, install, locate_handle, locate_handle_buffer, locate_protocol,
@@ -39,14 +40,16 @@ fn slots_of(s: Service) -> u8
         | Service::SetMem
         | Service::Uninstall
         | Service::HandleProtocol
+        | Service::DisconnectController
         | Service::ProtocolsPerHandle
         | Service::LocateProtocol => 3,
-        Service::Install | Service::CloseProtocol | Service::OpenProtocolInformation => 4,
+        Service::Install
+        | Service::ConnectController
+        | Service::CloseProtocol
+        | Service::OpenProtocolInformation => 4,
         Service::LocateHandle | Service::LocateHandleBuffer => 5,
         Service::OpenProtocol => 6,
-        Service::ConnectController
-        | Service::DisconnectController
-        | Service::UninstallMultiple
+        Service::UninstallMultiple
         | Service::MemRead
         | Service::MemWrite
         | Service::PciRead
@@ -151,9 +154,9 @@ fn change_for(s: Service, c: &Caller, a: &[u64; 16], w: &World) -> Result<Change
         Service::InstallMultiple => install_multiple(c.image, a[0], first_pair(c.sp), w),
         Service::CopyMem => copy_mem(a[0], a[1], a[2], w),
         Service::SetMem => set_mem(a[0], a[1], low8(a[2]), w),
-        Service::ConnectController
-        | Service::DisconnectController
-        | Service::UninstallMultiple
+        Service::ConnectController => connect_controller(a[0], a[1], a[2], low8(a[3]), w),
+        Service::DisconnectController => disconnect_controller(a[0], a[1], a[2], w),
+        Service::UninstallMultiple
         | Service::MemRead
         | Service::MemWrite
         | Service::PciRead
@@ -251,8 +254,8 @@ fn serve_row(w: &mut World, s: Service, c: &Caller) -> Result<Served, OutOfMemor
 /// with `Budget`, and nothing is spent. Then the arguments are read, and if one can't be read the answer
 /// is `Trap` with `Memory`. If the price names an argument, they are read before it, and then nothing is
 /// spent. Then come the statuses of the service in their order, and traps with `Memory` for bytes that it
-/// can't read or write. A service that is not built answers UNSUPPORTED. No service that is built answers
-/// `Again`.
+/// can't read or write. A service that is not built answers UNSUPPORTED. ConnectController and
+/// DisconnectController may answer `Again`, and no other service does.
 ///
 /// # Errors
 ///
@@ -261,7 +264,7 @@ pub fn serve(w: &mut World, s: Service, c: &Caller) -> Result<Served, OutOfMemor
     requires { is_boot_service s ≡ true }
     ensures now { IfOk result (λ answer. served s c.now w.old.now ≡ (answer, w.new.now)) }
     ensures marks { OnOk result (w.new.marks ≡ w.old.marks) }
-    ensures ends { IfOk result (λ answer. goes_on answer ≡ false) }
+    ensures ends { IfOk result (λ answer. may_go_on s ≡ false → goes_on answer ≡ false) }
 {
     services_end();
     serve_row(w, s, c)

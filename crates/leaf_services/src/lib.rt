@@ -3,7 +3,7 @@
 //! `serve` is the table of `service_model`, `specs/BootServices.antt`. Each row of it is a function of
 //! `service_rows` that looks at the arguments and at the world, and answers a change or why it stops.
 //! `changes` alone changes the world, by the calls of `storing`, `interfaces` and `buffers`; `reentries`
-//! has what ConnectController and DisconnectController go on with, whose rows are not yet in the table.
+//! has what ConnectController and DisconnectController go on with.
 #![tactic(auto)]
 
 mod boot_services;

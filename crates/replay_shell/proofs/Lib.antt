@@ -1,5 +1,1 @@
-pub mod CallLemmas
-pub mod LoadLemmas
 pub mod ReplayLemmas
-pub mod ReportLemmas
-pub mod ScriptLemmas

@@ -7,15 +7,15 @@ use Rattle.std.proofs.lemmas.Grind.{common_steps}
 use Rattle.fw_types.specs.declared.command.Command.{Command}
 use Rattle.fw_shelf.specs.Shelf.{Files}
 use Rattle.fw_shelf.specs.Sink.{with_bytes, with_bytes-again}
-use Rattle.world_model.specs.World.{State}
-use Rattle.replay_shell.specs.DriverModel.{booted, exec, texts}
-use Rattle.replay_shell.specs.Headline.{EndsWith, answer, reads_at}
+use Rattle.bind_engine.specs.Machine.{MachineView}
+use Rattle.bind_engine.specs.Commands.{booted, exec}
+use Rattle.replay_shell.specs.Headline.{EndsWith, answer, reads_at, texts}
 use Rattle.replay_shell.specs.declared.replay.Stop.{Stop}
 use Rattle.replay_shell.specs.declared.replay.Stop.TheVariants.{Shelf, Sink, Memory}
 use Rattle.replay_shell.specs.Replay.{Replays, TakesTurn, text_of}
 
 -- after the first commands the machine has the other texts before it, and their texts were taken
-pub record SoFar (files : Files) (commands : List Command) (done : ℕ) (machine : State) (old now : Option (List ℕ)) : Type 0 where
+pub record SoFar (files : Files) (commands : List Command) (done : ℕ) (machine : MachineView) (old now : Option (List ℕ)) : Type 0 where
   pub left : texts files machine (drop done commands) ≡ drop done (texts files booted commands)
   pub taken : now ≡ with_bytes old (concat (take done (texts files booted commands)))
 
@@ -52,12 +52,12 @@ is_at (x ∷ xs) zero command within is = let same : x ≡ command = sym is in r
 is_at (x ∷ xs) (suc i) command within is = let later = is_at xs i command (omega arith) is in record { here = later.here; got = later.got }
 
 -- the texts from a command on
-texts-here : (files : Files) (commands : List Command) (i : ℕ) (machine : State) (old now : Option (List ℕ)) (command : Command) → SoFar files commands i machine old now → IsAt commands i command
+texts-here : (files : Files) (commands : List Command) (i : ℕ) (machine : MachineView) (old now : Option (List ℕ)) (command : Command) → SoFar files commands i machine old now → IsAt commands i command
     → drop i (texts files booted commands) ≡ text_of files machine command ∷ texts files (exec command files machine).1 (drop (suc i) commands)
 texts-here files commands i machine old now command so_far there = sym so_far.left ∙ ap (texts files machine) there.here
 
 -- one command more
-pub SoFar-more : (files : Files) (commands : List Command) (i : ℕ) (machine next : State) (old now new : Option (List ℕ)) (command : Command) → SoFar files commands i machine old now → IsAt commands i command
+pub SoFar-more : (files : Files) (commands : List Command) (i : ℕ) (machine next : MachineView) (old now new : Option (List ℕ)) (command : Command) → SoFar files commands i machine old now → IsAt commands i command
     → next ≡ (exec command files machine).1 → new ≡ with_bytes now (text_of files machine command) → SoFar files commands (i + 1) next old new
 SoFar-more files commands i machine next old now new command so_far there went wrote =
     let all = texts files booted commands in
@@ -65,7 +65,7 @@ SoFar-more files commands i machine next old now new command so_far there went w
     let rest = texts files (exec command files machine).1 (drop (suc i) commands) in
     let here : drop i all ≡ text ∷ rest = texts-here files commands i machine old now command so_far there in
     rw (add-one i) (record {
-      left = ap (λ (m : State). texts files m (drop (suc i) commands)) went ∙ sym (drop-suc all rest i text here);
+      left = ap (λ (m : MachineView). texts files m (drop (suc i) commands)) went ∙ sym (drop-suc all rest i text here);
       taken = wrote ∙ ap (λ (t : Option (List ℕ)). with_bytes t text) so_far.taken ∙ with_bytes-again old (concat (take i all)) text ∙ ap (with_bytes old) (sym (concat-take all rest i text here));
     })
 
@@ -83,7 +83,7 @@ take-append-le (suc n) [] ys h = absurd (omega arith)
 take-append-le (suc n) (x ∷ xs) ys h = ap (λ (zs : List ℕ). x ∷ zs) (take-append-le n xs ys (omega arith))
 
 -- the end of all commands
-pub SoFar-end : (files : Files) (commands : List Command) (i : ℕ) (machine : State) (old now : Option (List ℕ)) → length commands ≤ i → SoFar files commands i machine old now → now ≡ with_bytes old (concat (texts files booted commands))
+pub SoFar-end : (files : Files) (commands : List Command) (i : ℕ) (machine : MachineView) (old now : Option (List ℕ)) → length commands ≤ i → SoFar files commands i machine old now → now ≡ with_bytes old (concat (texts files booted commands))
 SoFar-end files commands i machine old now past so_far =
     let all = texts files booted commands in
     let none : drop i commands ≡ [] = drop-past commands i past in
@@ -95,7 +95,7 @@ take-past-prefix [] ys n = let same : 0 + n ≡ n = omega arith in ap (λ (k : �
 take-past-prefix (x ∷ xs) ys n = let next : suc (length xs) + n ≡ suc (length xs + n) = omega arith in rw next (ap (λ (zs : List ℕ). x ∷ zs) (take-past-prefix xs ys n))
 
 -- how a replay ends if one command is the last
-pub stopped-here : (files : Files) (commands : List Command) (i : ℕ) (machine : State) (old now new : Option (List ℕ)) (command : Command) (stop : Stop) → SoFar files commands i machine old now → IsAt commands i command
+pub stopped-here : (files : Files) (commands : List Command) (i : ℕ) (machine : MachineView) (old now new : Option (List ℕ)) (command : Command) (stop : Stop) → SoFar files commands i machine old now → IsAt commands i command
     → TakesTurn files machine command (Err stop) now new → Replays files commands (Err stop) old new
 stopped-here files commands i machine old now new command Shelf so_far there took =
     let reads : reads_at commands i ≡ true = rw there.got took.0 in

@@ -6,18 +6,21 @@ use Rattle.std.specs.Option.{option_map_or}
 use Rattle.std.specs.declared.alloc.Global.{Global}
 use Rattle.fw_types.specs.declared.command.Command.{Command}
 use Rattle.fw_types.specs.declared.image.PeRefusal.{PeRefusal}
+use Rattle.fw_types.specs.declared.reply.Reply.{Reply}
 use Rattle.fw_shelf.specs.Shelf.{Files, NamedFile, absent, file_of, present, too_long}
 use Rattle.fw_shelf.specs.Sink.{with_bytes, TakesProperPrefix}
 use Rattle.pe_image.specs.ImageRules.{code_end_of, entry_of, refusal_of}
 use Rattle.pe_image.specs.LaidImage.{laid}
 use Rattle.ebc_asm.specs.Listing.{listing}
+use Rattle.script_text.specs.declared.script.Script.{Script}
+use Rattle.script_text.specs.ScriptGrammar.{Reading, accepted, refused, script_of}
+use Rattle.report_text.specs.Report.{reply_text}
+use Rattle.bind_engine.specs.Machine.{MachineView}
+use Rattle.bind_engine.specs.Commands.{booted, exec, reads_file}
 use Rattle.replay_shell.specs.declared.respond.Form.{Form as FormOfCode}
 use Rattle.replay_shell.specs.declared.respond.Form.TheVariants.{Run, Disasm}
 use Rattle.replay_shell.specs.declared.replay.Stop.{Stop}
 use Rattle.replay_shell.specs.declared.replay.Stop.TheVariants.{Shelf, Sink, Memory}
-use Rattle.replay_shell.specs.declared.script.Script.{Script}
-use Rattle.replay_shell.specs.ScriptGrammar.{Reading, accepted, refused, script_of}
-use Rattle.replay_shell.specs.DriverModel.{booted, reads_file, texts}
 use Rattle.replay_shell.specs.OtherTexts.{absent_line, refused_image_line, refused_line, too_long_line, usage_line}
 
 -- The words.
@@ -49,6 +52,15 @@ form_of [] = None
 form_of (verb ∷ []) = None
 form_of (verb ∷ name ∷ []) = form_of_verb verb name
 form_of (verb ∷ name ∷ other ∷ others) = None
+
+-- The report.
+
+-- the texts of commands and their replies, one after the other
+abbrev pub texts : Files → MachineView → List Command → List (List ℕ)
+texts files machine [] = []
+texts files machine (command ∷ commands) =
+    let after : Reply × MachineView = exec command files machine in
+    reply_text command after.0 ∷ texts files after.1 commands
 
 -- The answer.
 

@@ -1,9 +1,3 @@
-pub mod ScriptGrammar
-pub mod Report
-pub mod Machine
-pub mod ImageLife
-pub mod RomLoad
-pub mod DriverModel
 pub mod OtherTexts
 pub mod Headline
 pub mod Replay

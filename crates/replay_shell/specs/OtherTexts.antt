@@ -2,9 +2,9 @@
 use Rattle.std.specs.Prelude.{ℕ, List, [], ◌∷◌, ◌++◌, codes}
 use Rattle.std.specs.Fmt.{decimal}
 use Rattle.fw_types.specs.declared.image.PeRefusal.{PeRefusal}
-use Rattle.replay_shell.specs.declared.script.ScriptKind.{ScriptKind}
-use Rattle.replay_shell.specs.declared.script.ScriptKind.TheVariants.{TooLong, NotAscii, NotBuilt}
-use Rattle.replay_shell.specs.Report.{line, refusal_word}
+use Rattle.script_text.specs.declared.script.ScriptKind.{ScriptKind}
+use Rattle.script_text.specs.declared.script.ScriptKind.TheVariants.{TooLong, NotAscii, NotBuilt, UnknownWord, Missing, Extra, Number}
+use Rattle.report_text.specs.Report.{line, refusal_word}
 
 -- words of none of the program's forms
 abbrev pub usage_line : List ℕ
@@ -23,6 +23,10 @@ abbrev pub kind_word : ScriptKind → List ℕ
 kind_word TooLong = codes "TooLong"
 kind_word NotAscii = codes "NotAscii"
 kind_word NotBuilt = codes "NotBuilt"
+kind_word UnknownWord = codes "UnknownWord"
+kind_word Missing = codes "Missing"
+kind_word Extra = codes "Extra"
+kind_word Number = codes "Number"
 
 -- a line of the script is refused
 abbrev pub refused_line : ℕ → ScriptKind → List ℕ

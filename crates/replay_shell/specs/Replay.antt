@@ -4,14 +4,14 @@ use Rattle.std.specs.List.{concat}
 use Rattle.fw_types.specs.declared.command.Command.{Command}
 use Rattle.fw_shelf.specs.Shelf.{Files}
 use Rattle.fw_shelf.specs.Sink.{with_bytes, TakesProperPrefix}
-use Rattle.world_model.specs.World.{State}
-use Rattle.replay_shell.specs.declared.machine.ExecFault.{ExecFault}
-use Rattle.replay_shell.specs.declared.machine.ExecFault.TheVariants.{ShelfFailed, OutOfMemory}
+use Rattle.report_text.specs.Report.{reply_text}
+use Rattle.bind_engine.specs.Machine.{MachineView}
+use Rattle.bind_engine.specs.Commands.{booted, exec, reads_file}
+use Rattle.bind_engine.specs.declared.machine.ExecFault.{ExecFault}
+use Rattle.bind_engine.specs.declared.machine.ExecFault.TheVariants.{ShelfFailed, OutOfMemory}
 use Rattle.replay_shell.specs.declared.replay.Stop.{Stop}
 use Rattle.replay_shell.specs.declared.replay.Stop.TheVariants.{Shelf, Sink, Memory}
-use Rattle.replay_shell.specs.Report.{reply_text}
-use Rattle.replay_shell.specs.DriverModel.{booted, exec, reads_file, texts}
-use Rattle.replay_shell.specs.Headline.{StopsAtRead, TakesPrefix}
+use Rattle.replay_shell.specs.Headline.{StopsAtRead, TakesPrefix, texts}
 
 -- the stop that a fault of the machine makes
 abbrev pub stop_of : ExecFault → Stop
@@ -19,15 +19,15 @@ stop_of ShelfFailed = Shelf
 stop_of OutOfMemory = Memory
 
 -- the text of one command
-abbrev pub text_of : Files → State → Command → List ℕ
-text_of files w command = reply_text command (exec command files w).0
+abbrev pub text_of : Files → MachineView → Command → List ℕ
+text_of files machine command = reply_text command (exec command files machine).0
 
 -- one command: its whole text was taken, or nothing of it unless the sink failed
-abbrev pub TakesTurn : Files → State → Command → Result State Stop → Option (List ℕ) → Option (List ℕ) → Type 0
-TakesTurn files w command (Ok next) old new = (next ≡ (exec command files w).1) × (new ≡ with_bytes old (text_of files w command))
-TakesTurn files w command (Err Shelf) old new = (reads_file command ≡ true) × (new ≡ old)
-TakesTurn files w command (Err Sink) old new = TakesProperPrefix old (text_of files w command) new
-TakesTurn files w command (Err Memory) old new = new ≡ old
+abbrev pub TakesTurn : Files → MachineView → Command → Result MachineView Stop → Option (List ℕ) → Option (List ℕ) → Type 0
+TakesTurn files machine command (Ok next) old new = (next ≡ (exec command files machine).1) × (new ≡ with_bytes old (text_of files machine command))
+TakesTurn files machine command (Err Shelf) old new = (reads_file command ≡ true) × (new ≡ old)
+TakesTurn files machine command (Err Sink) old new = TakesProperPrefix old (text_of files machine command) new
+TakesTurn files machine command (Err Memory) old new = new ≡ old
 
 -- all commands from the opening state
 abbrev pub Replays : Files → List Command → Result (Unit {0}) Stop → Option (List ℕ) → Option (List ℕ) → Type 0

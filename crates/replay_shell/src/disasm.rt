@@ -6,12 +6,12 @@ ghost use Rattle.replay_shell.specs.Headline.{EndsWith, answer, code_listing, co
 ghost use Rattle.replay_shell.specs.OtherTexts.{refused_image_line};
 
 use crate::replay::Stop;
-use crate::report_words::refusal_name;
 use crate::say::say;
 use ebc_asm::disassemble;
 use fw_shelf::{Shelf, ShelfFault, Sink};
 use fw_types::{OutOfMemory, PeRefusal};
 use pe_image::{PeView, check, lay};
+use report_text::refusal_name;
 use std::alloc::Global;
 
 /// The line that says why an image is refused.

@@ -1,32 +1,29 @@
 //! The program: it reads a script, replays its commands on the driver-model machine, and writes the
 //! report.
 //!
-//! The way of a command: `respond` reads the words, `read` turns the script's lines into commands,
-//! `replay` hands the machine from command to command, `machine` does one command (`image_life`
-//! loads an image, whose entry point `bind_engine` calls), and `report` writes its text. `top` is
-//! all of this over any shelf and any sink.
+//! The way of a command: `respond` reads the words, `script_text` turns the script's lines into
+//! commands, `replay` hands the machine of `bind_engine` from command to command, and `report_text`
+//! makes the text of each. `disasm` lists an image. `top` is all of this over any shelf and any
+//! sink.
 #![tactic(auto)]
 
 ghost use Rattle.std.specs.Prelude.{◌≡◌, ◌≢◌, IfOk, drop};
 ghost use Rattle.std.specs.Vec.Iter.{into_iter_items};
 
 mod disasm;
-mod image_life;
 #[cfg(test)]
 mod image_tests;
-mod machine;
+#[cfg(test)]
+mod listing_tests;
+#[cfg(test)]
+mod load_tests;
 #[cfg(test)]
 mod outside_tests;
 #[cfg(test)]
 mod protocol_tests;
-mod read;
 mod replay;
-mod report;
-mod report_words;
 mod respond;
-mod rom_load;
 mod say;
-mod script;
 #[cfg(test)]
 mod service_tests;
 #[cfg(test)]

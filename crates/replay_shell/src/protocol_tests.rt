@@ -1,5 +1,5 @@
+use crate::load_tests::replayed;
 use crate::service_tests::{ANSWER, FIND_SERVICES, LEAVE, assembled};
-use crate::tests::replayed;
 use std::process::Abort;
 use std::test::Fail;
 

@@ -1,14 +1,16 @@
-ghost use Rattle.std.specs.Prelude.{◌≡◌, ◌≤◌, Some, IsErrOf};
+ghost use Rattle.std.specs.Prelude.{◌≡◌, ◌≤◌, Some, IsErrOf, true};
+ghost use Rattle.std.specs.List.{list_all};
+ghost use Rattle.fw_types.specs.Commands.{has_legal_budgets};
 ghost use Rattle.fw_shelf.specs.Faults.{Rose};
 ghost use Rattle.fw_shelf.specs.Shelf.{Files};
 ghost use Rattle.replay_shell.specs.declared.replay.Stop.TheVariants.{Memory as MemoryStop, Sink as SinkStop};
 ghost use Rattle.replay_shell.specs.Replay.{Replays, TakesTurn, stop_of};
 
-use crate::machine::{ExecFault, Machine};
-use crate::report::render;
-use crate::script::Script;
+use bind_engine::{ExecFault, Machine};
 use fw_shelf::{Shelf, Sink, SinkFailed, write_all};
 use fw_types::{Command, OutOfMemory};
+use report_text::render;
+use script_text::Script;
 use std::alloc::Global;
 
 /// Why the program gave up.
@@ -49,7 +51,8 @@ impl From<OutOfMemory> for Stop {
     }
 }
 
-/// Does one command, and writes its text after it has ended.
+/// Does one command, and writes its text after it has ended. The budgets of the command are ones
+/// that a machine may be given.
 ///
 /// # Errors
 ///
@@ -64,6 +67,7 @@ fn take_turn<F: Shelf, K: Sink>(
     shelf: &mut F,
     sink: &mut K,
 ) -> Result<Machine, Stop>
+    requires budgets { has_legal_budgets command.now ≡ true }
     ensures taken { (files : Files) → F.files shelf.old ≡ Some files
         → TakesTurn files machine command.now result (K.taken sink.old) (K.taken sink.new) }
     ensures shelf_failed { IsErrOf result Stop.Shelf
@@ -82,7 +86,7 @@ fn take_turn<F: Shelf, K: Sink>(
 }
 
 /// Does the commands of a script on a new machine, one after the other, and writes the text of each
-/// after it has ended.
+/// after it has ended. The budgets of each command are ones that a machine may be given.
 ///
 /// # Errors
 ///
@@ -96,6 +100,7 @@ pub fn replay<F: Shelf, K: Sink>(
     shelf: &mut F,
     sink: &mut K,
 ) -> Result<(), Stop>
+    requires budgets { list_all has_legal_budgets script.now.commands ≡ true }
     ensures taken { (files : Files) → F.files shelf.old ≡ Some files
         → Replays files script.now.commands result (K.taken sink.old) (K.taken sink.new) }
     ensures shelf_failed { IsErrOf result Stop.Shelf

@@ -1,18 +1,19 @@
-ghost use Rattle.std.specs.Prelude.{◌≡◌, ◌≢◌, Some, IfErr, IfOk, IsErrOf, List, false, is_none, nat_eq, option_map, string_bytes};
+ghost use Rattle.std.specs.Prelude.{◌≡◌, ◌≢◌, Some, IfErr, IfOk, IsErrOf, List, false, is_none, nat_eq, option_map, string_bytes, true};
+ghost use Rattle.std.specs.List.{list_all};
+ghost use Rattle.fw_types.specs.Commands.{has_legal_budgets};
 ghost use Rattle.fw_types.specs.declared.command.Command.{Command as CommandValue};
 ghost use Rattle.fw_shelf.specs.Faults.{Rose};
 ghost use Rattle.fw_shelf.specs.Shelf.{Files, file_of};
 ghost use Rattle.replay_shell.specs.Headline.{Ends, EndsWith, answer, file_answer, file_commands, form_of, form_of_verb, form_value, gives_up, script_answer, script_commands, words_in};
 ghost use Rattle.replay_shell.specs.OtherTexts.{kind_word, refused_line};
-ghost use Rattle.replay_shell.specs.ScriptGrammar.{accepted, script_of};
+ghost use Rattle.script_text.specs.ScriptGrammar.{accepted, script_of};
 
 use crate::disasm::list_image;
-use crate::read::parse;
 use crate::replay::{Stop, replay};
 use crate::say::say;
-use crate::script::{Script, ScriptFault, ScriptKind};
 use fw_shelf::{Shelf, ShelfFault, Sink};
 use fw_types::OutOfMemory;
+use script_text::{Script, ScriptFault, ScriptKind, parse};
 use std::alloc::Global;
 
 /// What the words ask for, each with the name of a file.
@@ -56,6 +57,10 @@ fn kind_name(kind: ScriptKind) -> &'static str
         ScriptKind::TooLong => "TooLong",
         ScriptKind::NotAscii => "NotAscii",
         ScriptKind::NotBuilt => "NotBuilt",
+        ScriptKind::UnknownWord => "UnknownWord",
+        ScriptKind::Missing => "Missing",
+        ScriptKind::Extra => "Extra",
+        ScriptKind::Number => "Number",
     }
 }
 
@@ -140,6 +145,7 @@ fn run_commands<F: Shelf, K: Sink>(
     shelf: &mut F,
     sink: &mut K,
 ) -> Result<u8, Stop>
+    requires budgets { list_all has_legal_budgets script.now.commands ≡ true }
     ensures taken { (files : Files) → F.files shelf.old ≡ Some files
         → EndsWith (script_answer files (accepted script.now)) files script.now.commands result
         (K.taken sink.old) (K.taken sink.new) }

@@ -1,4 +1,4 @@
-use crate::tests::replayed;
+use crate::load_tests::replayed;
 use ebc_asm::assemble;
 use fw_shelf::MemSink;
 use std::alloc::Global;
@@ -339,10 +339,10 @@ fn thunks_are_made_of_entries_in_images(rt: HostRuntime) -> Result<(), Fail> {
         ),
         // The system table, which can be read and not written.
         (&["MOVIqd R7, 65536\nBREAK 5\n"], memory),
-        // A thunk is not called yet.
+        // A thunk is called: its code ends at once, with 0 in R7. The call costs 64 units.
         (
             &["MOVRELd R7, =place\nBREAK 5\nCALL32EXa @R7\nRET\n", PLACE],
-            "1 0 entry 3 0 0 trap:BadCall\nimage 1 ABORTED\n= ABORTED 83\n",
+            "1 0 entry 3 0 0 SUCCESS\nimage 1 handle 3\n= SUCCESS 149\n",
         ),
         // Thunks without end: 65,536 of them are made.
         (

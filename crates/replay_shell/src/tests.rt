@@ -45,21 +45,14 @@ pub fn image(alloc: Global, code: &[u8]) -> Result<Vec<u8>, AllocError> {
     Ok(file)
 }
 
-/// A shelf with a script `s` and the images `a.efi` and `b.efi` of some code.
-fn shelf_of(
-    alloc: Global,
-    script: &[u8],
-    a: &[u8],
-    b: &[u8],
-    failing: &[u64],
-) -> Result<MemShelf, AllocError> {
+/// A shelf with a script `s` and the smallest driver's image `a.efi`, some reads of which fail.
+fn shelf_of(alloc: Global, script: &[u8], failing: &[u64]) -> Result<MemShelf, AllocError> {
     let script = (
         String::from_str(alloc, "s")?,
         Vec::from_slice(alloc, script)?,
     );
-    let a = (String::from_str(alloc, "a.efi")?, image(alloc, a)?);
-    let b = (String::from_str(alloc, "b.efi")?, image(alloc, b)?);
-    let files = vec![in alloc; script, a, b]?;
+    let image = (String::from_str(alloc, "a.efi")?, image(alloc, SMALLEST)?);
+    let files = vec![in alloc; script, image]?;
     Ok(MemShelf::new(files, Vec::from_slice(alloc, failing)?))
 }
 
@@ -68,281 +61,6 @@ pub fn run_words(alloc: Global, name: &str) -> Result<Vec<String>, AllocError> {
     let run = String::from_str(alloc, "run")?;
     let name = String::from_str(alloc, name)?;
     Ok(vec![in alloc; run, name]?)
-}
-
-/// Replays a script over the images of some code, into a sink with room for all.
-pub fn replayed(
-    alloc: Global,
-    script: &[u8],
-    a: &[u8],
-    b: &[u8],
-) -> Result<(u8, MemSink), OutOfMemory> {
-    let mut shelf = shelf_of(alloc, script, a, b, &[])?;
-    let mut sink = MemSink::new(alloc, 1_000_000, 1_000_000, Vec::new(alloc))?;
-    let words = run_words(alloc, "s")?;
-    Ok((top(alloc, &words, &mut shelf, &mut sink), sink))
-}
-
-#[test]
-fn loads_are_replayed(rt: HostRuntime) -> Result<(), Fail> {
-    // A script, the code of a.efi and of b.efi, and the report.
-    let cases: [(&str, &[u8], &[u8], &str); 12] = [
-        ("load a.efi", SMALLEST, b"\x04\x00", SMALLEST_REPORT),
-        ("", SMALLEST, SMALLEST, ""),
-        (
-            "load none.efi\n",
-            SMALLEST,
-            SMALLEST,
-            "> load none.efi\n= NOT_FOUND 0\n",
-        ),
-        // The script is no image.
-        (
-            "load s\n",
-            SMALLEST,
-            SMALLEST,
-            "> load s\nimage 1 refused Short\n= LOAD_ERROR 0\n",
-        ),
-        // MOVIqw R7, 0 alone runs into zeros, which are BREAK 0.
-        (
-            "load a.efi\n",
-            b"\x77\x37\x00\x00",
-            SMALLEST,
-            "> load a.efi\n1 0 entry 3 0 0 trap:Break\nimage 1 ABORTED\n= ABORTED 82\n",
-        ),
-        // ADD64 R1, R2 and a RET; R7 is 0.
-        (
-            "load a.efi\n",
-            b"\x4C\x21\x04\x00",
-            SMALLEST,
-            "> load a.efi\n1 0 entry 3 0 0 SUCCESS\nimage 1 handle 3\n= SUCCESS 82\n",
-        ),
-        // BREAK 5 asks for a thunk at the address 0.
-        (
-            "load a.efi\n",
-            b"\x00\x05\x04\x00",
-            SMALLEST,
-            "> load a.efi\n1 0 entry 3 0 0 trap:Memory\nimage 1 ABORTED\n= ABORTED 81\n",
-        ),
-        // A jump to itself.
-        (
-            "load a.efi\n",
-            b"\x02\xFF",
-            SMALLEST,
-            "> load a.efi\n1 0 entry 3 0 0 trap:Budget\nimage 1 ABORTED\n= ABORTED 1048592\n",
-        ),
-        // A native call of Stall, whose address the firmware's tables have, and of SetTimer.
-        (
-            "load a.efi\nload b.efi\n",
-            b"\x60\x84\x18\x00\x60\xC4\x60\x00\x35\x05\x83\x2C\xF8\x00\x00\x00\x36\x05\x04\x00",
-            b"\x60\x84\x18\x00\x60\xC4\x60\x00\x35\x05\x83\x2C\x58\x00\x00\x00\x36\x05\x04\x00",
-            "> load a.efi\n1 0 entry 3 0 0 SUCCESS\nimage 1 handle 3\n= SUCCESS 87\n> load b.efi\n1 0 entry 4 0 0 UNSUPPORTED\nimage 1 UNSUPPORTED\n= UNSUPPORTED 87\n",
-        ),
-        // A warning is a success; an error with a name, and one without.
-        (
-            "load a.efi\n",
-            b"\x77\x37\x05\x00\x04\x00",
-            SMALLEST,
-            "> load a.efi\n1 0 entry 3 0 0 0x0000000000000005\nimage 1 handle 3\n= SUCCESS 82\n",
-        ),
-        (
-            "load a.efi\nload b.efi\n",
-            b"\xF7\x37\x0E\x00\x00\x00\x00\x00\x00\x80\x04\x00",
-            b"\xF7\x37\x63\x00\x00\x00\x00\x00\x00\x80\x04\x00",
-            "> load a.efi\n1 0 entry 3 0 0 NOT_FOUND\nimage 1 NOT_FOUND\n= NOT_FOUND 82\n> load b.efi\n1 0 entry 3 0 0 0x8000000000000063\nimage 1 0x8000000000000063\n= 0x8000000000000063 82\n",
-        ),
-        // The number of a handle whose entry failed is used again.
-        (
-            "load a.efi\nload b.efi\nload a.efi\n",
-            SMALLEST,
-            b"\x00\x00",
-            "> load a.efi\n1 0 entry 3 0 0 SUCCESS\nimage 1 handle 3\n= SUCCESS 82\n> load b.efi\n1 0 entry 4 0 0 trap:Break\nimage 1 ABORTED\n= ABORTED 81\n> load a.efi\n1 0 entry 4 0 0 SUCCESS\nimage 1 handle 4\n= SUCCESS 82\n",
-        ),
-    ];
-    for (script, a, b, report) in cases {
-        let (status, sink) = replayed(rt.alloc(), script.as_bytes(), a, b)?;
-        assert_eq!(rt; status, 0, "at {script}");
-        assert_eq!(rt; sink.taken(), report.as_bytes(), "at {script}");
-    }
-    Ok(())
-}
-
-#[test]
-fn traps_and_breaks_are_reported(rt: HostRuntime) -> Result<(), Fail> {
-    // A code, and the report after its first line.
-    let cases: [(&[u8], &str); 5] = [
-        // DIV64 R1, R2 by 0.
-        (
-            b"\x50\x21",
-            "1 0 entry 3 0 0 trap:Divide\nimage 1 ABORTED\n= ABORTED 81\n",
-        ),
-        // No instruction has the opcode 0x27.
-        (
-            b"\x27\x00",
-            "1 0 entry 3 0 0 trap:Illegal\nimage 1 ABORTED\n= ABORTED 81\n",
-        ),
-        // BREAK 1 puts the version of the virtual machine into R7; BREAK 3, 4 and 6 do nothing.
-        (
-            b"\x00\x01\x04\x00",
-            "1 0 entry 3 0 0 0x0000000000010000\nimage 1 handle 3\n= SUCCESS 82\n",
-        ),
-        (
-            b"\x00\x03\x00\x04\x00\x06\x04\x00",
-            "1 0 entry 3 0 0 SUCCESS\nimage 1 handle 3\n= SUCCESS 84\n",
-        ),
-        // BREAK 2 means nothing here.
-        (
-            b"\x00\x02\x04\x00",
-            "1 0 entry 3 0 0 trap:Break\nimage 1 ABORTED\n= ABORTED 81\n",
-        ),
-    ];
-    for (code, report) in cases {
-        let (status, sink) = replayed(rt.alloc(), b"load a.efi\n", code, SMALLEST)?;
-        let report = format!(in rt.alloc(); "> load a.efi\n{report}")?;
-        assert_eq!(rt; status, 0, "at {report}");
-        assert_eq!(rt; sink.taken(), report.as_bytes(), "at {report}");
-    }
-    Ok(())
-}
-
-/// MOVIqd R1, 0x2000210; MOVqw R7, @R1; RET: the value is what the first image has 16 bytes after
-/// its entry, where this code has zeros.
-const READER: &[u8] =
-    b"\xB7\x31\x10\x02\x00\x02\x20\x97\x04\x00\x00\x00\x00\x00\x00\x00\x00\x00\x00\x00\x00\x00\x00\x00";
-
-#[test]
-fn what_a_failed_entry_wrote_is_undone(rt: HostRuntime) -> Result<(), Fail> {
-    // MOVIqd R1, 0x2000210; MOVIqw @R1, 5; an error or 0 to R7; RET: the code, and the report.
-    let cases: [(&[u8], &str); 2] = [
-        (
-            b"\xB7\x31\x10\x02\x00\x02\x77\x39\x05\x00\xF7\x37\x0E\x00\x00\x00\x00\x00\x00\x80\x04\x00",
-            "> load a.efi\n1 0 entry 3 0 0 SUCCESS\nimage 1 handle 3\n= SUCCESS 83\n> load b.efi\n1 0 entry 4 0 0 NOT_FOUND\nimage 1 NOT_FOUND\n= NOT_FOUND 84\n> load a.efi\n1 0 entry 4 0 0 SUCCESS\nimage 1 handle 4\n= SUCCESS 83\n",
-        ),
-        (
-            b"\xB7\x31\x10\x02\x00\x02\x77\x39\x05\x00\x77\x37\x00\x00\x04\x00",
-            "> load a.efi\n1 0 entry 3 0 0 SUCCESS\nimage 1 handle 3\n= SUCCESS 83\n> load b.efi\n1 0 entry 4 0 0 SUCCESS\nimage 1 handle 4\n= SUCCESS 84\n> load a.efi\n1 0 entry 5 0 0 0x0000000000000005\nimage 1 handle 5\n= SUCCESS 83\n",
-        ),
-    ];
-    for (code, report) in cases {
-        let script = b"load a.efi\nload b.efi\nload a.efi\n";
-        let (status, sink) = replayed(rt.alloc(), script, READER, code)?;
-        assert_eq!(rt; status, 0);
-        assert_eq!(rt; sink.taken(), report.as_bytes());
-    }
-    Ok(())
-}
-
-#[test]
-fn a_driver_sees_what_the_firmware_maps(rt: HostRuntime) -> Result<(), Fail> {
-    // MOVI to R1 of an address, and what the code does there; and the report after its first line.
-    let cases: [(&[u8], &str); 4] = [
-        // The signature of the system table.
-        (
-            b"\xB7\x31\x00\x00\x01\x00\x20\x97\x04\x00",
-            "1 0 entry 3 0 0 0x5453595320494249\nimage 1 handle 3\n= SUCCESS 83\n",
-        ),
-        // ImageBase in the loaded image block of the image itself.
-        (
-            b"\xF7\x31\x40\x00\x00\x00\x01\x00\x00\x00\x20\x97\x04\x00",
-            "1 0 entry 3 0 0 0x0000000002000000\nimage 1 handle 3\n= SUCCESS 83\n",
-        ),
-        // MOVIqw @R1, 5 to the system table, and to the loaded image block.
-        (
-            b"\xB7\x31\x00\x00\x01\x00\x77\x39\x05\x00\x04\x00",
-            "1 0 entry 3 0 0 trap:Memory\nimage 1 ABORTED\n= ABORTED 82\n",
-        ),
-        (
-            b"\xF7\x31\x58\x00\x00\x00\x01\x00\x00\x00\x77\x39\x05\x00\x04\x00",
-            "1 0 entry 3 0 0 SUCCESS\nimage 1 handle 3\n= SUCCESS 83\n",
-        ),
-    ];
-    for (code, report) in cases {
-        let (status, sink) = replayed(rt.alloc(), b"load a.efi\n", code, SMALLEST)?;
-        let report = format!(in rt.alloc(); "> load a.efi\n{report}")?;
-        assert_eq!(rt; status, 0, "at {report}");
-        assert_eq!(rt; sink.taken(), report.as_bytes(), "at {report}");
-    }
-    Ok(())
-}
-
-#[test]
-fn scripts_are_read_by_lines(rt: HostRuntime) -> Result<(), Fail> {
-    // A script, and the line that says where and why it is refused, or none.
-    let cases: [(&str, &str); 14] = [
-        ("\n# a comment\n  \t \n\tload  a.efi # another\r\n", ""),
-        ("load a.efi#comment", ""),
-        ("load a.efi\r", "script 1 NotAscii\n"),
-        ("load a.efi\r\r\n", "script 1 NotAscii\n"),
-        ("connect", "script 1 NotBuilt\n"),
-        ("load", "script 1 NotBuilt\n"),
-        ("load a.efi b.efi", "script 1 NotBuilt\n"),
-        ("LOAD a.efi", "script 1 NotBuilt\n"),
-        ("load a.efi\n\nfly\nload\n", "script 3 NotBuilt\n"),
-        ("load a.efi # \u{e9}", "script 1 NotAscii\n"),
-        ("load a\u{7f}", "script 1 NotAscii\n"),
-        ("fly \u{7f}\n", "script 1 NotAscii\n"),
-        ("#\n#\nload\tb.efi\n#\u{0}\n", "script 4 NotAscii\n"),
-        ("\r\n\r\n", ""),
-    ];
-    for (script, refusal) in cases {
-        let (status, sink) = replayed(rt.alloc(), script.as_bytes(), SMALLEST, SMALLEST)?;
-        if refusal.is_empty() {
-            assert_eq!(rt; status, 0, "at {script}");
-        } else {
-            assert_eq!(rt; status, 2, "at {script}");
-            assert_eq!(rt; sink.taken(), refusal.as_bytes(), "at {script}");
-        }
-    }
-    Ok(())
-}
-
-/// A script of one byte, so many times, between two texts.
-fn stretched(
-    alloc: Global,
-    first: &str,
-    byte: u8,
-    count: usize,
-    last: &str,
-) -> Result<Vec<u8>, AllocError> {
-    let mut script = Vec::from_slice(alloc, first.as_bytes())?;
-    for _ in 0..count {
-        script.push(byte)?;
-    }
-    script.extend_from_slice(last.as_bytes())?;
-    Ok(script)
-}
-
-#[test]
-fn lines_names_and_their_number_have_limits(rt: HostRuntime) -> Result<(), Fail> {
-    // What comes first, a byte and how often it comes, what comes last, and the refusal.
-    let cases: [(&str, u8, usize, &str, &str); 10] = [
-        ("#", b'x', 1023, "", ""),
-        ("#", b'x', 1024, "", "script 1 TooLong\n"),
-        ("#", b'x', 1023, "\r\n", ""),
-        ("load ", b'n', 255, "", ""),
-        ("load ", b'n', 256, "", "script 1 TooLong\n"),
-        ("load ", b'n', 256, " b \u{7f}", "script 1 TooLong\n"),
-        ("fly ", b'n', 256, "", "script 1 NotBuilt\n"),
-        ("", b'\n', 99_999, "load a.efi\n", ""),
-        (
-            "",
-            b'\n',
-            100_000,
-            "load a.efi\n",
-            "script 100001 TooLong\n",
-        ),
-        ("", b'\n', 100_001, "", "script 100001 TooLong\n"),
-    ];
-    for (first, byte, count, last, refusal) in cases {
-        let script = stretched(rt.alloc(), first, byte, count, last)?;
-        let (status, sink) = replayed(rt.alloc(), script.as_slice(), SMALLEST, SMALLEST)?;
-        if refusal.is_empty() {
-            assert_eq!(rt; status, 0, "at {first} and {count}");
-        } else {
-            assert_eq!(rt; status, 2, "at {first} and {count}");
-            assert_eq!(rt; sink.taken(), refusal.as_bytes(), "at {first} and {count}");
-        }
-    }
-    Ok(())
 }
 
 /// The same piece so many times.
@@ -355,42 +73,11 @@ pub fn repeated(alloc: Global, piece: &[u8], count: usize) -> Result<Vec<u8>, Al
 }
 
 #[test]
-fn runs_end_at_the_image_and_at_the_budget(rt: HostRuntime) -> Result<(), Fail> {
-    let alloc = rt.alloc();
-    // How many MOVIqw R7, 0 come before a RET, or without one, and the report.
-    let cases: [(usize, &[u8], &str); 3] = [
-        (
-            128,
-            b"",
-            "> load a.efi\n1 0 entry 3 0 0 trap:Fetch\nimage 1 ABORTED\n= ABORTED 209\n",
-        ),
-        (
-            1_048_512,
-            b"\x04\x00",
-            "> load a.efi\n1 0 entry 3 0 0 trap:Budget\nimage 1 ABORTED\n= ABORTED 1114120\n",
-        ),
-        (
-            1_048_511,
-            b"\x04\x00",
-            "> load a.efi\n1 0 entry 3 0 0 SUCCESS\nimage 1 handle 3\n= SUCCESS 1114120\n",
-        ),
-    ];
-    for (count, end, report) in cases {
-        let mut code = repeated(alloc, b"\x77\x37\x00\x00", count)?;
-        code.extend_from_slice(end)?;
-        let (status, sink) = replayed(alloc, b"load a.efi", code.as_slice(), SMALLEST)?;
-        assert_eq!(rt; status, 0);
-        assert_eq!(rt; sink.taken(), report.as_bytes(), "at {count}");
-    }
-    Ok(())
-}
-
-#[test]
 fn a_script_of_100_000_commands_is_replayed(rt: HostRuntime) -> Result<(), Fail> {
     let alloc = rt.alloc();
     let script = repeated(alloc, b"load x\n", 100_000)?;
     let report = repeated(alloc, b"> load x\n= NOT_FOUND 0\n", 100_000)?;
-    let mut shelf = shelf_of(alloc, script.as_slice(), SMALLEST, SMALLEST, &[])?;
+    let mut shelf = shelf_of(alloc, script.as_slice(), &[])?;
     let mut sink = MemSink::new(alloc, 2_300_000, 2_300_000, Vec::new(alloc))?;
     let words = run_words(alloc, "s")?;
     assert_eq!(rt; top(alloc, &words, &mut shelf, &mut sink), 0);
@@ -398,42 +85,10 @@ fn a_script_of_100_000_commands_is_replayed(rt: HostRuntime) -> Result<(), Fail>
     Ok(())
 }
 
-/// Whether a text ends so.
-fn ends_with(text: &[u8], end: &str) -> bool {
-    text.ends_with(end.as_bytes())
-}
-
-#[test]
-fn images_have_limits(rt: HostRuntime) -> Result<(), Fail> {
-    let alloc = rt.alloc();
-    let script = repeated(alloc, b"load a.efi\n", 4095)?;
-    let (status, sink) = replayed(alloc, script.as_slice(), SMALLEST, SMALLEST)?;
-    assert_eq!(rt; status, 0);
-    assert!(rt;
-        ends_with(
-            sink.taken(),
-            "1 0 entry 4096 0 0 SUCCESS\nimage 1 handle 4096\n= SUCCESS 82\n> load a.efi\nimage 1 OUT_OF_RESOURCES\n= OUT_OF_RESOURCES 16\n"
-        )
-    );
-    // An image of 16 MiB: four of them fill the 64 MiB that all images may have.
-    let mut code = repeated(alloc, SMALLEST, 1)?;
-    code.resize(16_776_704, 0)?;
-    let script = repeated(alloc, b"load a.efi\n", 5)?;
-    let (status, sink) = replayed(alloc, script.as_slice(), code.as_slice(), SMALLEST)?;
-    assert_eq!(rt; status, 0);
-    assert!(rt;
-        ends_with(
-            sink.taken(),
-            "1 0 entry 6 0 0 SUCCESS\nimage 1 handle 6\n= SUCCESS 262210\n> load a.efi\nimage 1 OUT_OF_RESOURCES\n= OUT_OF_RESOURCES 262144\n"
-        )
-    );
-    Ok(())
-}
-
 /// What `top` answers and writes for words, over a script of some bytes.
 fn answered(alloc: Global, texts: &[&str], script: &[u8]) -> Result<(u8, MemSink), OutOfMemory> {
-    let mut shelf = shelf_of(alloc, script, SMALLEST, SMALLEST, &[])?;
-    let mut sink = MemSink::new(alloc, 100, 100, Vec::new(alloc))?;
+    let mut shelf = shelf_of(alloc, script, &[])?;
+    let mut sink = MemSink::new(alloc, 1000, 100, Vec::new(alloc))?;
     let mut words = Vec::new(alloc);
     for text in texts {
         words.push(String::from_str(alloc, text)?)?;
@@ -462,6 +117,44 @@ fn words_are_answered(rt: HostRuntime) -> Result<(), Fail> {
     Ok(())
 }
 
+/// A script with each command.
+const EACH_COMMAND: &str = "load a.efi\nload none.efi\nconnect 3 one end\n\
+    disconnect 3 0 0\nplatform 3 2 3\nbudget 1000 64\ndump\n";
+
+/// Its report: the image is no driver, so the PCI bus driver alone is asked.
+const EACH_COMMAND_REPORT: &str =
+    "> load a.efi\n1 0 entry 3 0 0 SUCCESS\nimage 1 handle 3\n= SUCCESS 82\n\
+    > load none.efi\n= NOT_FOUND 0\n\
+    > connect 3 one end\n1 0 connect 0 3 0 SUCCESS\n2 1 supported 2 3 0 UNSUPPORTED\n\
+    = SUCCESS 128\n\
+    > disconnect 3 0 0\n1 0 disconnect 0 3 0 SUCCESS\n= SUCCESS 64\n\
+    > platform 3 2 3\n= SUCCESS 0\n> budget 1000 64\n= SUCCESS 0\n\
+    > dump\nhandle 1\nproto 5b1b31a1-9562-11d2-8e3f-00a0c969723b 0x14000 1\n\
+    handle 2\nproto 18a031ab-b443-4d1a-a5c0-0c09261e9f71 0x13000 1\n\
+    handle 3\nproto 5b1b31a1-9562-11d2-8e3f-00a0c969723b 0x100000000 1\n= SUCCESS 0\n";
+
+#[test]
+fn scripts_are_replayed_or_refused(rt: HostRuntime) -> Result<(), Fail> {
+    // A script, and the status with its text.
+    let cases: [(&str, u8, &str); 9] = [
+        ("", 0, ""),
+        (EACH_COMMAND, 0, EACH_COMMAND_REPORT),
+        ("load a.efi\nload a\u{7f}\n", 2, "script 2 NotAscii\n"),
+        ("root 0 0", 2, "script 1 NotBuilt\n"),
+        ("\n\nfly\nload", 2, "script 3 UnknownWord\n"),
+        ("load", 2, "script 1 Missing\n"),
+        ("dump 3", 2, "script 1 Extra\n"),
+        ("budget 0 64", 2, "script 1 Number\n"),
+        ("disconnect x 0 0", 2, "script 1 Number\n"),
+    ];
+    for (script, want, text) in cases {
+        let (status, sink) = answered(rt.alloc(), &["run", "s"], script.as_bytes())?;
+        assert_eq!(rt; status, want, "at {text}");
+        assert_eq!(rt; sink.taken(), text.as_bytes(), "at {text}");
+    }
+    Ok(())
+}
+
 #[test]
 fn a_script_over_16_mib_is_too_long(rt: HostRuntime) -> Result<(), Fail> {
     let alloc = rt.alloc();
@@ -477,7 +170,7 @@ fn a_failing_sink_has_taken_a_prefix(rt: HostRuntime) -> Result<(), Fail> {
     let alloc = rt.alloc();
     let words = run_words(alloc, "s")?;
     for write in 1..69u64 {
-        let mut shelf = shelf_of(alloc, b"load a.efi", SMALLEST, SMALLEST, &[])?;
+        let mut shelf = shelf_of(alloc, b"load a.efi", &[])?;
         let mut sink = MemSink::new(alloc, 100, 1, Vec::from_slice(alloc, &[write])?)?;
         let status = top(alloc, &words, &mut shelf, &mut sink);
         let taken = write as usize - 1;
@@ -485,7 +178,7 @@ fn a_failing_sink_has_taken_a_prefix(rt: HostRuntime) -> Result<(), Fail> {
         assert_eq!(rt; status, if write < 68 { 4 } else { 0 }, "at {write}");
         assert_eq!(rt; sink.taken(), &SMALLEST_REPORT.as_bytes()[..taken]);
     }
-    let mut shelf = shelf_of(alloc, b"load a.efi", SMALLEST, SMALLEST, &[])?;
+    let mut shelf = shelf_of(alloc, b"load a.efi", &[])?;
     let mut sink = MemSink::new(alloc, 100, 5, Vec::from_slice(alloc, &[2])?)?;
     assert_eq!(rt; top(alloc, &words, &mut shelf, &mut sink), 4);
     assert_eq!(rt; sink.taken(), b"> loa".as_slice());
@@ -499,8 +192,8 @@ fn a_failing_shelf_ends_the_text_before_a_load(rt: HostRuntime) -> Result<(), Fa
     // The read that fails, and how many bytes were written by then: whole texts of 67 bytes.
     let cases: [(u64, usize); 5] = [(1, 0), (2, 0), (3, 67), (4, 134), (5, 201)];
     for (read, taken) in cases {
-        let script = b"load a.efi\nload a.efi\nload b.efi";
-        let mut shelf = shelf_of(alloc, script, SMALLEST, SMALLEST, &[read])?;
+        let script = b"load a.efi\nload a.efi\nload a.efi";
+        let mut shelf = shelf_of(alloc, script, &[read])?;
         let mut sink = MemSink::new(alloc, 1000, 1000, Vec::new(alloc))?;
         let status = top(alloc, &words, &mut shelf, &mut sink);
         assert_eq!(rt; status, if read < 5 { 3 } else { 0 }, "at {read}");

@@ -1,5 +1,5 @@
 -- What rows end with: changes that can be applied, that leave the task priority level, except for the two
--- services that set it, and that do not go on.
+-- services that set it, and that do not go on, except for ConnectController's and DisconnectController's.
 use Rattle.std.proofs.Common.{◌≡◌, ◌≤◌, ℕ, ◌*◌, Bool, true, false, ◌&&◌, not, nat_eq, nat_le, List, refl, ap, ◌∙◌, subst, rules, arith}
 use Rattle.std.specs.Prelude.{Option, Some, None, is_some, Ok, if◌then◌else◌}
 use Rattle.std.proofs.lemmas.Bool.{and_from, and_parts, or_right}
@@ -26,12 +26,14 @@ use Rattle.service_model.specs.Many.{first_pair, install_multiple}
 use Rattle.service_model.specs.BootServices.{arg, arg32, arg8, row}
 use Rattle.service_model.specs.Allowed.{RowsAreAllowed, can_store, goes_again, is_allowed, is_of_image}
 use Rattle.service_model.specs.declared.numbers.TheConstants.{TPL_HIGH_LEVEL}
-use Rattle.service_model.specs.Untouched.{sets_tpl}
+use Rattle.service_model.specs.Connecting.{connect_controller, disconnect_controller}
+use Rattle.service_model.specs.Untouched.{may_go_on, sets_tpl}
 use Rattle.service_model.specs.declared.call.Caller.{Caller}
 use Rattle.service_model.specs.declared.plan.Contents.{Contents}
 use Rattle.service_model.specs.declared.plan.Change.{Change}
-use Rattle.service_model.specs.declared.plan.Change.TheVariants.{Block, Free, Open, SetTpl, Store, Value}
+use Rattle.service_model.specs.declared.plan.Change.TheVariants.{Block, Disconnect, Free, Open, SetTpl, Store, Value}
 use Rattle.service_model.specs.declared.plan.Stop.TheVariants.{Status, Trap}
+use Rattle.service_model.proofs.ConnectRows.{connect-allowed}
 use Rattle.service_model.proofs.PairRows.{fits-of, lives}
 use Rattle.service_model.proofs.RowLines.{Says, is-legal, is-same, is-there, not-refused, not-stopped, says-after, says-end, says-found, says-if, says-stop}
 
@@ -189,38 +191,50 @@ set-fine to n byte w = search (rules, says-after, says-end, can-write)
 unbuilt-fine : (w : State) → Says (Fine w) (unbuilt w)
 unbuilt-fine w = says-stop (Fine w) (Status UNSUPPORTED)
 
-rows-fine : (s : Service) (c : Caller) (a : List ℕ) (w : State) → sets_tpl s ≡ false → Says (Fine w) ((row s).rest c a w)
-rows-fine service.RaiseTpl c a w none = absurd cc
-rows-fine service.RestoreTpl c a w none = absurd cc
-rows-fine service.AllocatePool c a w none = allocate-fine (arg a 1) (arg a 2) w
-rows-fine service.FreePool c a w none = says-end (Fine w) (Free (arg a 0)) (refl, refl, refl)
-rows-fine service.Install c a w none = install-fine c.image (arg a 0) (arg a 1) (arg32 a 2) (arg a 3) w
-rows-fine service.Uninstall c a w none = uninstall-fine (arg a 0) (arg a 1) (arg a 2) w
-rows-fine service.HandleProtocol c a w none = open-fine (arg a 0) (arg a 1) (arg a 2) firmware 0 BY_HANDLE_PROTOCOL w
-rows-fine service.LocateHandle c a w none = locate-fine (arg32 a 0) (arg a 1) (arg a 3) (arg a 4) w
-rows-fine service.OpenProtocol c a w none = open-fine (arg a 0) (arg a 1) (arg a 2) (arg a 3) (arg a 4) (arg32 a 5) w
-rows-fine service.CloseProtocol c a w none = close-fine (arg a 0) (arg a 1) (arg a 2) (arg a 3) w
-rows-fine service.OpenProtocolInformation c a w none = information-fine (arg a 0) (arg a 1) (arg a 2) (arg a 3) w
-rows-fine service.ProtocolsPerHandle c a w none = protocols-fine (arg a 0) (arg a 1) (arg a 2) w
-rows-fine service.LocateHandleBuffer c a w none = locate_buffer-fine (arg32 a 0) (arg a 1) (arg a 3) (arg a 4) w
-rows-fine service.LocateProtocol c a w none = locate_protocol-fine (arg a 0) (arg a 2) w
-rows-fine service.InstallMultiple c a w none = many-fine c.image (arg a 0) (first_pair c.sp) w
-rows-fine service.Stall c a w none = says-end (Fine w) (Value 0) (refl, refl, refl)
-rows-fine service.CopyMem c a w none = copy-fine (arg a 0) (arg a 1) (arg a 2) w
-rows-fine service.SetMem c a w none = set-fine (arg a 0) (arg a 1) (arg8 a 2) w
-rows-fine service.ConnectController c a w none = unbuilt-fine w
-rows-fine service.DisconnectController c a w none = unbuilt-fine w
-rows-fine service.UninstallMultiple c a w none = unbuilt-fine w
-rows-fine service.MemRead c a w none = unbuilt-fine w
-rows-fine service.MemWrite c a w none = unbuilt-fine w
-rows-fine service.PciRead c a w none = unbuilt-fine w
-rows-fine service.PciWrite c a w none = unbuilt-fine w
-rows-fine service.GetLocation c a w none = unbuilt-fine w
-rows-fine service.Attributes c a w none = unbuilt-fine w
-rows-fine service.Unbuilt c a w none = unbuilt-fine w
+rows-fine : (s : Service) (c : Caller) (a : List ℕ) (w : State) → sets_tpl s ≡ false → may_go_on s ≡ false → Says (Fine w) ((row s).rest c a w)
+rows-fine service.RaiseTpl c a w none other = absurd cc
+rows-fine service.RestoreTpl c a w none other = absurd cc
+rows-fine service.AllocatePool c a w none other = allocate-fine (arg a 1) (arg a 2) w
+rows-fine service.FreePool c a w none other = says-end (Fine w) (Free (arg a 0)) (refl, refl, refl)
+rows-fine service.Install c a w none other = install-fine c.image (arg a 0) (arg a 1) (arg32 a 2) (arg a 3) w
+rows-fine service.Uninstall c a w none other = uninstall-fine (arg a 0) (arg a 1) (arg a 2) w
+rows-fine service.HandleProtocol c a w none other = open-fine (arg a 0) (arg a 1) (arg a 2) firmware 0 BY_HANDLE_PROTOCOL w
+rows-fine service.LocateHandle c a w none other = locate-fine (arg32 a 0) (arg a 1) (arg a 3) (arg a 4) w
+rows-fine service.OpenProtocol c a w none other = open-fine (arg a 0) (arg a 1) (arg a 2) (arg a 3) (arg a 4) (arg32 a 5) w
+rows-fine service.CloseProtocol c a w none other = close-fine (arg a 0) (arg a 1) (arg a 2) (arg a 3) w
+rows-fine service.OpenProtocolInformation c a w none other = information-fine (arg a 0) (arg a 1) (arg a 2) (arg a 3) w
+rows-fine service.ProtocolsPerHandle c a w none other = protocols-fine (arg a 0) (arg a 1) (arg a 2) w
+rows-fine service.LocateHandleBuffer c a w none other = locate_buffer-fine (arg32 a 0) (arg a 1) (arg a 3) (arg a 4) w
+rows-fine service.LocateProtocol c a w none other = locate_protocol-fine (arg a 0) (arg a 2) w
+rows-fine service.InstallMultiple c a w none other = many-fine c.image (arg a 0) (first_pair c.sp) w
+rows-fine service.Stall c a w none other = says-end (Fine w) (Value 0) (refl, refl, refl)
+rows-fine service.CopyMem c a w none other = copy-fine (arg a 0) (arg a 1) (arg a 2) w
+rows-fine service.SetMem c a w none other = set-fine (arg a 0) (arg a 1) (arg8 a 2) w
+rows-fine service.ConnectController c a w none other = absurd cc
+rows-fine service.DisconnectController c a w none other = absurd cc
+rows-fine service.UninstallMultiple c a w none other = unbuilt-fine w
+rows-fine service.MemRead c a w none other = unbuilt-fine w
+rows-fine service.MemWrite c a w none other = unbuilt-fine w
+rows-fine service.PciRead c a w none other = unbuilt-fine w
+rows-fine service.PciWrite c a w none other = unbuilt-fine w
+rows-fine service.GetLocation c a w none other = unbuilt-fine w
+rows-fine service.Attributes c a w none other = unbuilt-fine w
+rows-fine service.Unbuilt c a w none other = unbuilt-fine w
+
+-- the two that may go on leave the level too
+connect-leaves : (controller list path recursive : ℕ) (w : State) → Says (λ change. is_of_tpl change ≡ false) (connect_controller controller list path recursive w)
+connect-leaves controller list path recursive w = search (rules, says-after, says-found, says-end) depth 30
+
+disconnect-leaves : (controller driver child : ℕ) (w : State) → Says (λ change. is_of_tpl change ≡ false) (disconnect_controller controller driver child w)
+disconnect-leaves controller driver child w = says-end (λ change. is_of_tpl change ≡ false) (Disconnect controller driver child) refl
+
+disconnect-allowed : (controller driver child : ℕ) (w : State) → Says (λ change. is_allowed change w ≡ true) (disconnect_controller controller driver child w)
+disconnect-allowed controller driver child w = says-end (λ change. is_allowed change w ≡ true) (Disconnect controller driver child) refl
 
 pub rows-leave : (s : Service) (c : Caller) (a : List ℕ) (w : State) → sets_tpl s ≡ false → Says (λ change. is_of_tpl change ≡ false) ((row s).rest c a w)
-rows-leave s c a w none change result = (rows-fine s c a w none change result).1
+rows-leave service.ConnectController c a w none change result = connect-leaves (arg a 0) (arg a 1) (arg a 2) (arg8 a 3) w change result
+rows-leave service.DisconnectController c a w none change result = disconnect-leaves (arg a 0) (arg a 1) (arg a 2) w change result
+rows-leave s c a w none change result = (rows-fine s c a w none refl change result).1
 
 -- the two that set the level answer a level
 abbrev pub IsLevel : Change → Type 0
@@ -249,7 +263,9 @@ restore-fine old w =
 pub rows-allowed : RowsAreAllowed
 rows-allowed service.RaiseTpl c a w change result = (raise-fine (arg a 0) w change result).0
 rows-allowed service.RestoreTpl c a w change result = (restore-fine (arg a 0) w change result).0
-rows-allowed s c a w change result = (rows-fine s c a w refl change result).0
+rows-allowed service.ConnectController c a w change result = connect-allowed (arg a 0) (arg a 1) (arg a 2) (arg8 a 3) w change result
+rows-allowed service.DisconnectController c a w change result = disconnect-allowed (arg a 0) (arg a 1) (arg a 2) w change result
+rows-allowed s c a w change result = (rows-fine s c a w refl refl change result).0
 
 level-of : (change : Change) → is_of_tpl change ≡ false → IsLevel change
 level-of (SetTpl tpl answer) other = absurd cc
@@ -258,9 +274,9 @@ level-of change other = tt
 pub rows-level : (s : Service) (c : Caller) (a : List ℕ) (w : State) → Says IsLevel ((row s).rest c a w)
 rows-level service.RaiseTpl c a w change result = (raise-fine (arg a 0) w change result).1
 rows-level service.RestoreTpl c a w change result = (restore-fine (arg a 0) w change result).1
-rows-level s c a w change result = level-of change (rows-fine s c a w refl change result).1
+rows-level s c a w change result = level-of change (rows-leave s c a w refl change result)
 
-pub rows-end : (s : Service) (c : Caller) (a : List ℕ) (w : State) → Says (λ change. goes_again change ≡ false) ((row s).rest c a w)
-rows-end service.RaiseTpl c a w change result = (raise-fine (arg a 0) w change result).2
-rows-end service.RestoreTpl c a w change result = (restore-fine (arg a 0) w change result).2
-rows-end s c a w change result = (rows-fine s c a w refl change result).2
+pub rows-end : (s : Service) (c : Caller) (a : List ℕ) (w : State) → may_go_on s ≡ false → Says (λ change. goes_again change ≡ false) ((row s).rest c a w)
+rows-end service.RaiseTpl c a w other change result = (raise-fine (arg a 0) w change result).2
+rows-end service.RestoreTpl c a w other change result = (restore-fine (arg a 0) w change result).2
+rows-end s c a w other change result = (rows-fine s c a w refl other change result).2

@@ -1,6 +1,6 @@
 -- What changes answer, and what services answer by them: why they trap, what an error leaves, and whether
 -- they go on.
-use Rattle.std.proofs.Common.{◌≡◌, ◌≤◌, ℕ, zero, suc, ◌^◌, Bool, true, false, not, ◌&&◌, nat_lt, List, length, replicate, refl, ap, subst, arith, rules}
+use Rattle.std.proofs.Common.{◌≡◌, ◌≤◌, ℕ, zero, suc, ◌^◌, Bool, true, false, not, ◌&&◌, nat_lt, List, length, replicate, refl, ap, ◌∙◌, subst, arith, rules}
 use Rattle.std.specs.Prelude.{Option, None, Result, Ok, Err, if◌then◌else◌}
 use Rattle.std.proofs.lemmas.Bool.Decides.{nat_tests}
 use Rattle.fw_types.specs.Status.{is_error}
@@ -21,7 +21,7 @@ use Rattle.service_model.specs.Contents.{contents_bytes, contents_count}
 use Rattle.service_model.specs.BootServices.{end_of_row, row}
 use Rattle.service_model.specs.Changes.{allot_served, applied, block_made, block_served, free_served, install_served, many_served, open_served, pair_added, pair_at, pair_installed, pairs_installed, status_answered, stored_if, uninstall_served}
 use Rattle.service_model.specs.Allowed.{ReentriesChangeNothing, goes_again}
-use Rattle.service_model.specs.Untouched.{ErrorsChangeNothing, NoneGoesOn, ShortOfUnitsTraps, StoresAtMostOne, TrapsChangeNothing, TrapsForItsCause, UnreadablePriceTraps, cause_by, goes_on}
+use Rattle.service_model.specs.Untouched.{ErrorsChangeNothing, OthersEnd, ShortOfUnitsTraps, StoresAtMostOne, TrapsChangeNothing, TrapsForItsCause, UnreadablePriceTraps, cause_by, goes_on}
 use Rattle.service_model.specs.declared.call.Caller.{Caller}
 use Rattle.service_model.specs.declared.call.Served.{Served}
 use Rattle.service_model.specs.declared.call.Served.TheVariants as served
@@ -167,23 +167,34 @@ reentries-go change w is = absurd cc
 
 -- ---- rows
 
-row-answers : (result : Result Change Stop) (w : State) → TrapsByMemory result → Says IsLevel result → Says (λ change. goes_again change ≡ false) result → Answers false w (end_of_row w result)
-row-answers (Ok change) w by level ends = subst (λ again. Answers again w (applied change w)) (ends change refl) (change-answers change w (level change refl))
-row-answers (Err (stop.Status status)) w by level ends = as-before status w
-row-answers (Err (stop.Trap cause)) w by level ends = record {
+-- whether what a row ends with goes on
+abbrev again_after : Result Change Stop → Bool
+again_after (Ok change) = goes_again change
+again_after (Err stop) = false
+
+row-answers : (result : Result Change Stop) (w : State) → TrapsByMemory result → Says IsLevel result → Answers (again_after result) w (end_of_row w result)
+row-answers (Ok change) w by level = change-answers change w (level change refl)
+row-answers (Err (stop.Status status)) w by level = as-before status w
+row-answers (Err (stop.Trap cause)) w by level = record {
   traps = λ other is. (refl, by other cc);
   errors = λ value is error. absurd cc;
   goes = refl;
 }
 
+not-again : (result : Result Change Stop) → Says (λ change. goes_again change ≡ false) result → again_after result ≡ false
+not-again (Ok change) ends = ends change refl
+not-again (Err stop) ends = refl
+
 -- ---- services
 
 module _ (s : Service) (c : Caller) where
-  work-answers : (a : List ℕ) (w : State) → Answers false w (end_of_row w ((row s).rest c a w))
-  work-answers a w = row-answers ((row s).rest c a w) w (rows-trap s c a w) (rows-level s c a w) (rows-end s c a w)
+  work-answers : (a : List ℕ) (w : State) → Answers (again_after ((row s).rest c a w)) w (end_of_row w ((row s).rest c a w))
+  work-answers a w = row-answers ((row s).rest c a w) w (rows-trap s c a w) (rows-level s c a w)
 
-pub none-goes : NoneGoesOn
-none-goes s c w = served-by (λ end. goes_on end.0 ≡ false) s c w refl refl (λ price. refl) (λ price a. (work-answers s c a (paid price w)).goes)
+pub others-end : OthersEnd
+others-end s c w other =
+    served-by (λ end. goes_on end.0 ≡ false) s c w refl refl (λ price. refl)
+    (λ price a. (work-answers s c a (paid price w)).goes ∙ not-again ((row s).rest c a (paid price w)) (rows-end s c a (paid price w) other))
 
 pub traps-change-nothing : TrapsChangeNothing
 traps-change-nothing s c w =

@@ -13,9 +13,11 @@ use Rattle.service_model.specs.Words.{null, number}
 use Rattle.service_model.specs.Rows.{allocate_pool, copy_mem, raise_tpl, restore_tpl, set_mem, unbuilt}
 use Rattle.service_model.specs.Protocols.{change_for_found, change_for_verdict, close, handles_in_buffer, install, locate_handle, locate_handle_buffer, locate_protocol, open_by_interface, open_by_records, open_protocol, open_protocol_information, out_of, protocols_per_handle, uninstall}
 use Rattle.service_model.specs.Many.{first_pair, handle_for, install_multiple, interface_place, name_readable, pair_fits, pair_place, pairs_before}
+use Rattle.service_model.specs.Connecting.{connect_controller, context_length, first_without, length_by, path_readable}
+use Rattle.service_model.specs.declared.numbers.TheConstants.{CONTEXT_SLOTS}
 use Rattle.service_model.specs.BootServices.{arg, arg32, arg8, row}
 use Rattle.service_model.specs.declared.call.Caller.{Caller}
-use Rattle.service_model.specs.declared.plan.Change.TheVariants.{Free, Open, Store, Value}
+use Rattle.service_model.specs.declared.plan.Change.TheVariants.{Disconnect, Free, Open, Store, Value}
 use Rattle.service_model.proofs.RowLines.{TrapsByMemory, traps-after, traps-each, traps-end, traps-found, traps-if, traps-memory, traps-missing, traps-status, traps-unread}
 
 -- ---- installing and uninstalling
@@ -116,6 +118,21 @@ copy-traps to from n w = search (rules, traps-after, traps-if, traps-end, traps-
 set-traps : (to n byte : ℕ) (w : State) → TrapsByMemory (set_mem to n byte w)
 set-traps to n byte w = search (rules, traps-after, traps-if, traps-end, traps-memory) depth 20
 
+-- ---- ConnectController and DisconnectController
+
+length-traps : (first : Option ℕ) (list : ℕ) (w : State) → TrapsByMemory (length_by first list w)
+length-traps None list w = traps-end None
+length-traps (Some i) list w = search (rules, traps-found, traps-end, traps-unread) depth 20
+
+context-traps : (list : ℕ) (w : State) → TrapsByMemory (context_length list w)
+context-traps list w = traps-if (null list) _ _ (traps-end (Some 0)) (length-traps (first_without CONTEXT_SLOTS list w) list w)
+
+path-traps : (path : ℕ) (w : State) → TrapsByMemory (path_readable path w)
+path-traps path w = search (rules, traps-if, traps-end, traps-memory) depth 20
+
+connect-traps : (controller list path recursive : ℕ) (w : State) → TrapsByMemory (connect_controller controller list path recursive w)
+connect-traps controller list path recursive w = search (rules, traps-after, traps-found, traps-end, traps-missing, context-traps, path-traps) depth 30
+
 -- ---- all rows
 
 unbuilt-traps : (w : State) → TrapsByMemory (unbuilt w)
@@ -140,8 +157,8 @@ rows-trap service.InstallMultiple c a w = many-traps c.image (arg a 0) (first_pa
 rows-trap service.Stall c a w = traps-end (Value SUCCESS.0)
 rows-trap service.CopyMem c a w = copy-traps (arg a 0) (arg a 1) (arg a 2) w
 rows-trap service.SetMem c a w = set-traps (arg a 0) (arg a 1) (arg8 a 2) w
-rows-trap service.ConnectController c a w = unbuilt-traps w
-rows-trap service.DisconnectController c a w = unbuilt-traps w
+rows-trap service.ConnectController c a w = connect-traps (arg a 0) (arg a 1) (arg a 2) (arg8 a 3) w
+rows-trap service.DisconnectController c a w = traps-end (Disconnect (arg a 0) (arg a 1) (arg a 2))
 rows-trap service.UninstallMultiple c a w = unbuilt-traps w
 rows-trap service.MemRead c a w = unbuilt-traps w
 rows-trap service.MemWrite c a w = unbuilt-traps w

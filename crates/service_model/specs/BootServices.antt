@@ -12,6 +12,7 @@ use Rattle.service_model.specs.Words.{◌>>=◌, slots}
 use Rattle.service_model.specs.Rows.{allocate_pool, copy_mem, free_pool, raise_tpl, restore_tpl, set_mem, stall, unbuilt}
 use Rattle.service_model.specs.Protocols.{close, handle_protocol, install, locate_handle, locate_handle_buffer, locate_protocol, open_protocol, open_protocol_information, protocols_per_handle, uninstall}
 use Rattle.service_model.specs.Many.{first_pair, install_multiple}
+use Rattle.service_model.specs.Connecting.{connect_controller, disconnect_controller}
 use Rattle.service_model.specs.Changes.{applied, stop_answered}
 use Rattle.service_model.specs.declared.call.Caller.{Caller}
 use Rattle.service_model.specs.declared.call.Served.{Served}
@@ -69,8 +70,8 @@ row Uninstall = fixed 3 8 (λ c a. uninstall (arg a 0) (arg a 1) (arg a 2))
 row HandleProtocol = fixed 3 8 (λ c a. handle_protocol (arg a 0) (arg a 1) (arg a 2))
 row LocateHandle = fixed 5 16 (λ c a. locate_handle (arg32 a 0) (arg a 1) (arg a 3) (arg a 4))
 row Stall = fixed 1 1 (λ c a. stall)
-row ConnectController = unbuilt_row
-row DisconnectController = unbuilt_row
+row ConnectController = fixed 4 1 (λ c a. connect_controller (arg a 0) (arg a 1) (arg a 2) (arg8 a 3))
+row DisconnectController = fixed 3 1 (λ c a. disconnect_controller (arg a 0) (arg a 1) (arg a 2))
 row OpenProtocol = fixed 6 8 (λ c a. open_protocol (arg a 0) (arg a 1) (arg a 2) (arg a 3) (arg a 4) (arg32 a 5))
 row CloseProtocol = fixed 4 8 (λ c a. close (arg a 0) (arg a 1) (arg a 2) (arg a 3))
 row OpenProtocolInformation = fixed 4 16 (λ c a. open_protocol_information (arg a 0) (arg a 1) (arg a 2) (arg a 3))

@@ -4,7 +4,7 @@ use Rattle.fw_types.specs.Status.{is_error}
 use Rattle.fw_types.specs.declared.event.Cause.{Cause}
 use Rattle.fw_types.specs.declared.event.Cause.TheVariants.{Budget, Memory}
 use Rattle.service_thunks.specs.declared.service.Service.{Service}
-use Rattle.service_thunks.specs.declared.service.Service.TheVariants.{RaiseTpl, RestoreTpl}
+use Rattle.service_thunks.specs.declared.service.Service.TheVariants.{ConnectController, DisconnectController, RaiseTpl, RestoreTpl}
 use Rattle.world_model.specs.World.{State, on_hard}
 use Rattle.world_model.specs.Units.{units_spent}
 use Rattle.world_model.specs.Fixed.{fixed_segments}
@@ -101,6 +101,12 @@ goes_on (Value value) = false
 goes_on (Trap cause) = false
 goes_on (Again reentry) = true
 
--- no service that is built does
-abbrev pub NoneGoesOn : Type 0
-NoneGoesOn = (s : Service) (c : Caller) (w : State) → goes_on (served s c w).0 ≡ false
+-- the services that may do so
+abbrev pub may_go_on : Service → Bool
+may_go_on ConnectController = true
+may_go_on DisconnectController = true
+may_go_on _ = false
+
+-- no other one does
+abbrev pub OthersEnd : Type 0
+OthersEnd = (s : Service) (c : Caller) (w : State) → may_go_on s ≡ false → goes_on (served s c w).0 ≡ false

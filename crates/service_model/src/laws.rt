@@ -18,7 +18,7 @@ ghost use Rattle.service_model.specs.Untouched.{
   EventsStay,
   FixedStay,
   KeptStays,
-  NoneGoesOn,
+  OthersEnd,
   ShortOfUnitsTraps,
   StacksStay,
   TplStays,
@@ -107,9 +107,10 @@ pub fn services_trap()
     ensures unreadable { UnreadablePriceTraps }
 {}
 
-/// No boot service that is built so far enters the driver model again.
+/// No boot service enters the driver model again, except for ConnectController and
+/// DisconnectController.
 pub fn services_end()
-    ensures { NoneGoesOn }
+    ensures { OthersEnd }
 {}
 
 /// The second look of an OpenProtocol for which a driver was disconnected spends no units and leaves

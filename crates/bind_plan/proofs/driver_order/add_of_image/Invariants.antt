@@ -1,6 +1,6 @@
 use Rattle.std.proofs.Common.{◌≡◌, ◌++◌, take, nat_eq}
 use Rattle.std.specs.Prelude.{filter}
-use Rattle.engine_model.specs.declared.binding.BindingBlock.{BindingBlock}
+use Rattle.driver_model.specs.declared.binding.BindingBlock.{BindingBlock}
 use Rattle.bind_plan.proofs.driver_order.add_of_image.Given as goal
 
 abbrev pub invariant-loop-block : goal.invariant-loop-block

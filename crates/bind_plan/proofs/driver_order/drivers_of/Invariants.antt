@@ -1,6 +1,6 @@
 use Rattle.std.proofs.Common.{◌≡◌, take}
 use Rattle.std.specs.Prelude.{flat_map}
-use Rattle.engine_model.specs.DriverOrder.{drivers_by}
+use Rattle.driver_model.specs.DriverOrder.{drivers_by}
 use Rattle.bind_plan.proofs.driver_order.drivers_of.Given as goal
 
 abbrev pub invariant-loop-handle : goal.invariant-loop-handle

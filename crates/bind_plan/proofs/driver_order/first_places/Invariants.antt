@@ -1,5 +1,5 @@
 use Rattle.std.proofs.Common.{◌≡◌, take}
-use Rattle.engine_model.specs.DriverOrder.{first_places}
+use Rattle.driver_model.specs.DriverOrder.{first_places}
 use Rattle.bind_plan.proofs.driver_order.first_places.Given as goal
 
 abbrev pub invariant-loop-block : goal.invariant-loop-block

@@ -1,7 +1,7 @@
 use Rattle.std.proofs.Common.{rules, ℕ}
 use Rattle.std.proofs.lemmas.Fn.{always_returns_same}
 use Rattle.std.specs.declared.cmp.Reverse.{Reverse}
-use Rattle.engine_model.specs.declared.binding.BindingBlock.{BindingBlock}
+use Rattle.driver_model.specs.declared.binding.BindingBlock.{BindingBlock}
 use Rattle.bind_plan.proofs.SortedVersions.{by_version_from_sort}
 use Rattle.bind_plan.proofs.driver_order.sort_by_version.Goals as goal
 

@@ -1,6 +1,6 @@
 use Rattle.std.proofs.Common.{◌≡◌, take}
 use Rattle.std.specs.Prelude.{filter}
-use Rattle.engine_model.specs.StopOrder.{has_child}
+use Rattle.driver_model.specs.StopOrder.{has_child}
 use Rattle.bind_plan.proofs.stop_order.parents_of.Given as goal
 
 abbrev pub invariant-loop-agent : goal.invariant-loop-agent

@@ -1,5 +1,5 @@
-use Rattle.service_model.proofs.ChangeAnswers.{none-goes}
+use Rattle.service_model.proofs.ChangeAnswers.{others-end}
 use Rattle.service_model.proofs.laws.services_end.Goals as goal
 
 pub returns : goal.returns
-returns c = none-goes
+returns c = others-end

@@ -1,0 +1,4 @@
+pub mod Lists
+pub mod LiveHandles
+pub mod Slots
+pub mod Records

@@ -1,0 +1,87 @@
+//! Which drivers ConnectController asks, and how it calls them (UEFI 2.8, 7.3 and 11.1).
+ghost use Rattle.std.specs.Prelude.{◌≡◌, IfOk};
+ghost use Rattle.driver_model.specs.Connect.{address_in, driver_call, is_marked, unmarked};
+ghost use Rattle.driver_model.specs.DriverOrder.{order, platform_list};
+
+use bind_plan::order;
+use driver_model::{BindingBlock, Call, CallKind, Connection, Settings};
+use fw_types::{Handle, OutOfMemory};
+use fw_world::World;
+
+/// The platform driver override's list for a controller, or an empty one.
+fn platform_list(settings: &Settings, controller: Handle) -> &[u64]
+    ensures { result.now ≡ platform_list settings.now controller }
+{
+    let lists = settings.platform.as_slice();
+    for list in lists {
+        if list.controller == controller.get() {
+            return list.drivers.as_slice();
+        }
+    }
+    &[]
+}
+
+/// Whether a driver was started in an earlier search, whatever its Start came to.
+fn is_marked(marked: &[u64], block: &BindingBlock) -> bool
+    ensures { result ≡ is_marked marked.now block.now }
+{
+    marked.iter().any(|handle| block.handle.get() == *handle)
+}
+
+/// The drivers to ask, in their order: those that are not marked.
+///
+/// # Errors
+///
+/// `OutOfMemory` if there is no memory for the list.
+pub fn drivers_to_ask(
+    world: &World,
+    settings: &Settings,
+    controller: Handle,
+    context: &[u64],
+    marked: &[u64],
+) -> Result<Vec<BindingBlock>, OutOfMemory>
+    ensures { IfOk result (λ blocks. blocks.items ≡ unmarked marked.now
+        (order controller context.now (platform_list settings.now controller) world.now.now.soft)) }
+{
+    let platform = platform_list(settings, controller);
+    let blocks = order(world, controller, context, platform)?;
+    let unmarked = blocks
+        .as_slice()
+        .iter()
+        .copied()
+        .filter(|block| !is_marked(marked, block))
+        .collect(world.alloc())?;
+    Ok(unmarked)
+}
+
+/// The field of a binding that is called.
+fn address_in(kind: CallKind, block: &BindingBlock) -> u64
+    ensures { result ≡ address_in kind block.now }
+{
+    match kind {
+        CallKind::Supported => block.supported,
+        CallKind::Start => block.start,
+        CallKind::Stop => block.stop,
+        CallKind::Entry | CallKind::Unload => 0,
+    }
+}
+
+/// The call of Supported or of Start: its arguments are the binding, the controller and the
+/// remaining path.
+pub fn driver_call(kind: CallKind, block: &BindingBlock, c: &Connection) -> Call
+    ensures { result ≡ driver_call kind block.now c.now }
+{
+    let mut slots = [0; 16];
+    slots[0] = block.at;
+    slots[1] = c.controller;
+    slots[2] = c.path;
+    Call {
+        kind,
+        driver: block.handle.get(),
+        controller: c.controller,
+        extra: 0,
+        address: address_in(kind, block),
+        binding: block.at,
+        slots,
+    }
+}

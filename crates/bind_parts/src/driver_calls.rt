@@ -1,0 +1,137 @@
+//! What a driver call enters, and around it.
+ghost use Rattle.std.specs.Prelude.{◌≡◌, None};
+ghost use Rattle.world_model.specs.Thunks.{thunk_at};
+ghost use Rattle.driver_model.specs.Activations.{is_success};
+ghost use Rattle.driver_model.specs.DriverCall.{allowance, bus_function, code_by, code_of as code_value, commits, event_kind, is_address, is_bus_address, is_bus_driver_call, outcome_of};
+
+use driver_model::{Call, CallKind, Code, RunEnd, Settings};
+use fw_types::{EventKind, Handle, Outcome, Status};
+use fw_world::World;
+use guest_memory::address_map::{BUS_BINDING, BUS_START, BUS_STOP, BUS_SUPPORTED};
+
+/// What a driver call may spend of what its caller has left.
+pub fn allowance(world: &World, settings: &Settings) -> u64
+    ensures { result ≡ allowance settings.now world.now.now }
+{
+    world.left().min(u64::from(settings.call_budget))
+}
+
+/// The kind of a call's event.
+pub fn event_kind(kind: CallKind) -> EventKind
+    ensures { result ≡ event_kind kind }
+{
+    match kind {
+        CallKind::Entry => EventKind::Entry,
+        CallKind::Supported => EventKind::Supported,
+        CallKind::Start => EventKind::Start,
+        CallKind::Stop => EventKind::Stop,
+        CallKind::Unload => EventKind::Unload,
+    }
+}
+
+/// The bus driver's function of a kind.
+fn bus_function(kind: CallKind) -> Option<u64>
+    ensures { result ≡ bus_function kind }
+{
+    match kind {
+        CallKind::Supported => Some(BUS_SUPPORTED),
+        CallKind::Start => Some(BUS_START),
+        CallKind::Stop => Some(BUS_STOP),
+        CallKind::Entry | CallKind::Unload => None,
+    }
+}
+
+/// Whether an address is this one, if one is given.
+fn is_address(at: u64, address: Option<u64>) -> bool
+    ensures { result ≡ is_address at address }
+{
+    match address {
+        Some(address) => at == address,
+        None => false,
+    }
+}
+
+/// Whether the bus driver's function of the kind is called by its own binding.
+fn is_bus_driver_call(call: &Call) -> bool
+    ensures { result ≡ is_bus_driver_call call.now }
+{
+    call.driver == Handle::bus_driver().get()
+        && call.binding == BUS_BINDING
+        && is_address(call.address, bus_function(call.kind))
+}
+
+/// Whether a function of a driver binding of the bus driver is at an address.
+fn is_bus_address(at: u64) -> bool
+    ensures { result ≡ is_bus_address at }
+{
+    matches!(at, BUS_SUPPORTED | BUS_START | BUS_STOP)
+}
+
+/// What is entered at an address behind which there is no thunk.
+fn native_code(call: &Call) -> Code
+    ensures { result ≡ code_by None call.now }
+{
+    if is_bus_driver_call(call) {
+        Code::BusDriver
+    } else if call.binding != 0 && is_bus_address(call.address) {
+        Code::Foreign
+    } else {
+        Code::NoCode
+    }
+}
+
+/// What is entered by a thunk, or else as native code.
+fn code_behind(world: &World, call: &Call) -> Code
+    ensures { result ≡ code_by (thunk_at call.now.address world.now.now.soft) call.now }
+{
+    match world.thunk_at(call.address) {
+        Some(entry) => Code::Ebc(entry),
+        None => native_code(call),
+    }
+}
+
+/// What a driver call enters. An entry point is called at its address, and all else by a thunk or
+/// as native code.
+#[tactic(auto, unfolding(driver_model::specs::DriverCall::code_of))]
+pub fn code_of(world: &World, call: &Call) -> Code
+    ensures { result ≡ code_value call.now world.now.now.soft }
+{
+    match call.kind {
+        CallKind::Entry => Code::Ebc(call.address),
+        CallKind::Supported | CallKind::Start | CallKind::Stop | CallKind::Unload => {
+            code_behind(world, call)
+        }
+    }
+}
+
+/// How a call ends whose run ends so.
+pub fn outcome_of(end: RunEnd) -> Outcome
+    ensures { result ≡ outcome_of end }
+{
+    match end {
+        RunEnd::Returned(value) => Outcome::Value(Status(value)),
+        RunEnd::Over(outcome) => outcome,
+    }
+}
+
+/// Whether a driver call succeeded: its value has bit 63 clear.
+pub fn is_success(outcome: Outcome) -> bool
+    ensures { result ≡ is_success outcome }
+{
+    match outcome {
+        Outcome::Value(status) => !status.is_error(),
+        Outcome::Trapped(_) => false,
+    }
+}
+
+/// Whether a call that ended so commits. Supported never does.
+pub fn commits(kind: CallKind, outcome: Outcome) -> bool
+    ensures { result ≡ commits kind outcome }
+{
+    match kind {
+        CallKind::Supported => false,
+        CallKind::Entry | CallKind::Start | CallKind::Stop | CallKind::Unload => {
+            is_success(outcome)
+        }
+    }
+}

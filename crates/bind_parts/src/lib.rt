@@ -1,0 +1,35 @@
+//! The parts of the driver model that call no driver: what ConnectController, DisconnectController,
+//! driver calls and runs of EBC code look at and do between the drivers that they call (UEFI 2.8,
+//! 7.3, 11.1 and chapter 22). `engine` makes these calls out of them.
+//!
+//! - `asking`: which drivers ConnectController asks, and how.
+//! - `driver_calls`: what a driver call enters, may spend and comes to; `settling`: how it ends.
+//! - `native_calls`: what a native call of EBC code goes to, with what arguments, and how it
+//!   returns.
+//! - `thunk_request`: the thunks that code asks for; `run_end`: how code ends.
+//! - `handles`: live handles and children; `stopping`: what DisconnectController looks at and
+//!   closes.
+//!
+//! Each function answers what a definition of `driver_model` says, which its contract cites.
+#![tactic(auto)]
+
+mod asking;
+mod driver_calls;
+mod handles;
+mod native_calls;
+mod run_end;
+mod settling;
+mod stopping;
+mod thunk_request;
+
+pub use asking::{driver_call, drivers_to_ask};
+pub use driver_calls::{allowance, code_of, event_kind, is_success, outcome_of};
+pub use handles::{children_of, live_handle, numbers_of};
+pub use native_calls::{callee, caller, passed_slots, serve_caller, take_answer, take_end};
+pub use run_end::{exit_of, trapped};
+pub use settling::settle;
+pub use stopping::{
+    are_all, children_to_stop, close_children, conclude, controller_of, is_of_another, manages,
+    note, stop_call,
+};
+pub use thunk_request::meet_request;

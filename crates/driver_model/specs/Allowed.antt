@@ -1,0 +1,56 @@
+-- What must hold of the state for a move to be made. The definitions make no other moves: each place has it from the
+-- tests that come right before the move.
+use Rattle.std.specs.Prelude.{ℕ, Bool, true, false, ◌&&◌, ◌||◌, not, nat_eq, nat_lt, is_ok, is_some, bytes_eq, List, length}
+use Rattle.fw_types.specs.Guid.{known_guid}
+use Rattle.fw_types.specs.declared.guid.Known.TheVariants.{DriverBinding, LoadedImage as LoadedImageProtocol}
+use Rattle.guest_memory.specs.GuestMemory.{is_writable_range}
+use Rattle.handle_db.specs.Database.{interface_of}
+use Rattle.world_model.specs.World.{State}
+use Rattle.world_model.specs.Images.{image_at, is_image_full}
+use Rattle.world_model.specs.Thunks.{thunk_answer}
+use Rattle.service_model.specs.Allowed.{is_of_image}
+use Rattle.driver_model.specs.Moves.{Move, adds_image, begins_event, caps, closes_all, closes_child, drops_all, drops_weak, ends_event, looks_again, makes_thunk, pays, pops, pushes, puts_back, returns, serves, sets_tpl, steps, uninstalls}
+
+-- a protocol of which some interfaces are never uninstalled: the loaded images, and the bus driver's binding
+abbrev pub has_lasting_interfaces : (guid : List ℕ) → Bool
+has_lasting_interfaces guid = bytes_eq guid (known_guid LoadedImageProtocol) || bytes_eq guid (known_guid DriverBinding)
+
+-- whether a move can be made by itself; those that come in pairs can't
+abbrev pub is_allowed : Move → State → Bool
+is_allowed (pays price) w = true
+is_allowed (caps most) w = false
+is_allowed (returns aside) w = false
+is_allowed (begins_event parent kind driver controller extra) w = false
+is_allowed (ends_event serial outcome) w = true
+is_allowed (steps cpu) w = true
+is_allowed (serves service caller) w = true
+is_allowed (looks_again removal) w = true
+-- the address of the thunk can be stored, its entry lies in an image, and a number is left
+is_allowed (makes_thunk place entry at) w =
+    is_writable_range w.soft.memory place 8 && (is_some (image_at entry w.soft) && is_ok (thunk_answer w.soft))
+is_allowed (pushes level slots children) w = false
+is_allowed (pops level) w = false
+is_allowed (sets_tpl tpl) w = true
+is_allowed (puts_back before) w = false
+is_allowed (closes_all controller agent) w = true
+is_allowed (closes_child controller agent child) w = true
+is_allowed (drops_weak handle guid) w = true
+-- the interface is an image's, or of a protocol of which none lasts
+is_allowed (uninstalls handle guid) w = is_of_image (interface_of handle guid w.soft.database) || not (has_lasting_interfaces guid)
+-- there is room for the image, and its entry is inside
+is_allowed (adds_image bytes entry subsystem device) w = nat_lt entry (length bytes) && not (is_image_full (length bytes) w.soft)
+is_allowed (drops_all image) w = true
+
+-- whether a move adds or drops an image
+abbrev pub is_of_images : Move → Bool
+is_of_images (adds_image bytes entry subsystem device) = true
+is_of_images (drops_all image) = true
+is_of_images other = false
+
+-- what driver calls, runs and activations can do: no driver loads or unloads an image
+abbrev pub is_allowed_in_calls : Move → State → Bool
+is_allowed_in_calls move w = not (is_of_images move) && is_allowed move w
+
+-- a driver call has sixteen arguments
+abbrev pub has_sixteen : (slots : List ℕ) → Bool
+has_sixteen slots = nat_eq (length slots) 16

@@ -1,0 +1,46 @@
+//! Laws of what driver calls leave and what they cost, over the definitions alone. Each is the contract of a
+//! function with no work of its own.
+
+ghost use Rattle.driver_model.specs.CallLaws.{CallsHaveTheirEvent, CallsLeaveTpl, SupportedLeaves, UncommittedCallsLeave};
+ghost use Rattle.driver_model.specs.Chains.{CallsAreChains, ConnectsAreChains, DisconnectsAreChains, LoadsAreChains, RunsAreChains, UnloadsAreChains};
+ghost use Rattle.driver_model.specs.Spending.{CallsSpend, ConnectsSpend, DisconnectsSpend, LoadsSpend, RunsSpend, ServicesGoingOnSpend};
+
+use service_model::laws::{second_looks_spend_nothing, services_leave};
+
+/// What a driver call leaves (UEFI 2.8, 11.1: EFI Driver Binding Protocol). If it does not commit, the soft part
+/// is as it was, whatever the call and all that it called did; Supported never commits. The task priority
+/// level is as it was. After the events of before comes the event of the call, unless the call may not spend
+/// its price.
+pub fn calls_leave()
+    ensures uncommitted { UncommittedCallsLeave }
+    ensures supported { SupportedLeaves }
+    ensures tpl { CallsLeaveTpl }
+    ensures event { CallsHaveTheirEvent }
+{
+    services_leave();
+    second_looks_spend_nothing();
+}
+
+/// What is spent, through all levels. Units never rise. Events only come: those of before are there, in their
+/// places, and say the same, except that one that had not ended may have. Each event is paid.
+pub fn all_is_paid()
+    ensures calls { CallsSpend }
+    ensures runs { RunsSpend }
+    ensures connects { ConnectsSpend }
+    ensures disconnects { DisconnectsSpend }
+    ensures services { ServicesGoingOnSpend }
+    ensures loads { LoadsSpend }
+{
+    second_looks_spend_nothing();
+}
+
+/// Driver calls, runs, activations, loads and unloads change the state by single moves alone, each where it
+/// can be made.
+pub fn all_are_chains()
+    ensures calls { CallsAreChains }
+    ensures runs { RunsAreChains }
+    ensures connects { ConnectsAreChains }
+    ensures disconnects { DisconnectsAreChains }
+    ensures loads { LoadsAreChains }
+    ensures unloads { UnloadsAreChains }
+{}

@@ -1,0 +1,115 @@
+use Rattle.std.proofs.Common.{◌≡◌, ◌<◌, Some, sym, ◌∙◌, arith, rules, false, nat_eq, nat_lt}
+use Rattle.std.proofs.lemmas.Bool.Decides.{nat_tests}
+use Rattle.fw_types.specs.declared.limits.TheConstants.{CALL_PRICE}
+use Rattle.guest_memory.specs.declared.address_map.TheConstants.{EXIT}
+use Rattle.driver_model.specs.Moves.{changed, pays}
+use Rattle.driver_model.specs.Levels.{level_with}
+use Rattle.engine.specs.AtLevel.{level_at, level_below}
+use Rattle.engine.proofs.Searches.{asked_all, asked_no, asked_yes, visited_all, visited_next}
+use Rattle.engine.proofs.Stops.{disconnected_is, turns_all, turns_next}
+use Rattle.engine.proofs.Turns.{through, thunk_is, thunk_nests, turn_taken}
+use Rattle.engine.proofs.+engine.Goals as goal
+
+-- ---- driver calls
+
+pub driver_call::call_driver-mark-requires : goal.driver_call::call_driver-mark-requires
+driver_call::call_driver-mark-requires t c = (c.marks_suffice.ensures.call c.args.room c.args.world.now.now.soft c.args.world.now.marks c.requires.marks).1
+
+-- ---- runs
+
+pub thunk_call::call_thunk-returns-clause-turn : goal.thunk_call::call_thunk-returns-clause-turn
+thunk_call::call_thunk-returns-clause-turn t c =
+    let enough : nat_lt c.args.world.now.now.hard.units CALL_PRICE ≡ false = grind (arith, nat_tests, c.left.ensures, c.if-left-lt-CALL_PRICE.false) in
+    let paying : c.spend.new.self.now ≡ changed (pays CALL_PRICE) c.args.world.now.now = search rules in
+    through c.enter_thunk.result _ _ _
+    (thunk_is c.args.settings.now c.args.room c.args.scope c.args.entry c.args.cpu.now c.args.world.now.now c.spend.new.self.now (omega (arith, c.if-room-eq0.false)) enough paying)
+    c.enter_thunk.ensures.turn
+
+pub guest_run::take_turn-returns-clause-turn : goal.guest_run::take_turn-returns-clause-turn
+guest_run::take_turn-returns-clause-turn t c =
+    let elsewhere : nat_eq c.args.cpu.now.ip EXIT ≡ false = grind (arith, nat_tests) in
+    let some : nat_eq c.args.world.now.now.hard.units 0 ≡ false = grind (arith, nat_tests, c.spend.ensures.enough) in
+    let paid : c.spend.new.self.now ≡ changed (pays 1) c.args.world.now.now = rw c.if-not-spend.false at c.spend.ensures.now in
+    through c.act.result _ _ _
+    (turn_taken c.args.settings.now (level_below c.args.settings.now c.args.room) c.args.scope (level_with c.args.room) c.args.cpu.now c.args.world.now.now c.spend.new.self.now
+    c.in_ok-out.out c.take_step.new.cpu c.take_step.new.world.now elsewhere some paid c.in_ok-out.ensures.out c.in_ok-out.ensures.cpu c.in_ok-out.ensures.now)
+    c.act.ensures.turn
+
+pub thunk_call::call_thunk-returns-then-room-eq0-clause-turn : goal.thunk_call::call_thunk-returns-then-room-eq0-clause-turn
+thunk_call::call_thunk-returns-then-room-eq0-clause-turn t c =
+    let enough : nat_lt c.args.world.now.now.hard.units CALL_PRICE ≡ false = grind (arith, nat_tests, c.left.ensures, c.if-left-lt-CALL_PRICE.false) in
+    let paying : c.spend.new.self.now ≡ changed (pays CALL_PRICE) c.args.world.now.now = search rules in
+    rw c.trapped-then-room-eq0.ensures
+    (thunk_nests c.args.settings.now c.args.room c.args.scope c.args.entry c.args.cpu.now c.args.world.now.now c.spend.new.self.now c.if-room-eq0.true enough paying)
+
+-- ---- searches
+
+pub search::ask-returns-then-is_success-clause-now : goal.search::ask-returns-then-is_success-clause-now
+search::ask-returns-then-is_success-clause-now t c =
+    sym c.loop-block.invariant.rest
+    ∙ asked_yes (level_at c.args.settings.now c.args.room) c.args.scope c.args.c.now c.args.blocks.now c.loop-block.block-index c.block-item.result c.loop-block.world.now c.call_driver.new.world.now c.in_ok-outcome.outcome
+    c.loop-block-test.true c.block-item.is (rw (← c.driver_call-call.ensures) c.in_ok-outcome.ensures.now) (sym c.is_success.ensures ∙ c.if-is_success.true)
+
+pub search::ask-loop-block-preserved : goal.search::ask-loop-block-preserved
+search::ask-loop-block-preserved t c = record {
+  rest =
+      sym (asked_no (level_at c.args.settings.now c.args.room) c.args.scope c.args.c.now c.args.blocks.now c.loop-block.block-index c.block-item.result c.loop-block.world.now c.call_driver.new.world.now c.in_ok-outcome.outcome
+      c.loop-block-test.true c.block-item.is (rw (← c.driver_call-call.ensures) c.in_ok-outcome.ensures.now) (sym c.is_success.ensures ∙ c.if-is_success.false))
+      ∙ c.loop-block.invariant.rest;
+  marks = c.in_ok-outcome.ensures.marks ∙ c.loop-block.invariant.marks;
+  stacks = c.in_ok-outcome.ensures.stacks ∙ c.loop-block.invariant.stacks;
+  units = omega (arith, c.in_ok-outcome.ensures.units, c.loop-block.invariant.units);
+  events = omega (arith, c.in_ok-outcome.ensures.events, c.loop-block.invariant.events);
+}
+
+pub search::ask-returns-clause-now : goal.search::ask-returns-clause-now
+search::ask-returns-clause-now t c = sym c.loop-block.invariant.rest ∙ asked_all _ _ _ _ _ _ c.loop-block-test.false
+
+pub search::search-searches-smaller : goal.search::search-searches-smaller
+search::search-searches-smaller t c =
+    let cheap : c.find.new.world.now.hard.units < c.searches.world.now.hard.units =
+    c.searches_go_on.ensures.costs c.args.settings.now c.args.room c.args.scope c.args.c.now c.args.context.now c.searches.marked.items c.searches.world.now c.find.new.world.now c.in-Some.block c.requires.room
+    (rw (← c.in-Some.is, ← c.deref.ensures.value) c.in_ok-found.ensures.now) in
+    omega (arith, cheap, c.in_ok-outcome.ensures.units)
+
+-- ---- children
+
+pub connection::visit_children-loop-child-preserved : goal.connection::visit_children-loop-child-preserved
+connection::visit_children-loop-child-preserved t c = record {
+  rest = sym (visited_next _ _ _ _ _ _ _ c.loop-child-test.true c.child-item.is c.in_ok-visit_child.ensures.now) ∙ c.loop-child.invariant.rest;
+  marks = c.in_ok-visit_child.ensures.marks ∙ c.loop-child.invariant.marks;
+  stacks = c.in_ok-visit_child.ensures.stacks ∙ c.loop-child.invariant.stacks;
+  units = omega (arith, c.in_ok-visit_child.ensures.units, c.loop-child.invariant.units);
+  events = omega (arith, c.in_ok-visit_child.ensures.events, c.loop-child.invariant.events);
+}
+
+pub connection::visit_children-returns-clause-now : goal.connection::visit_children-returns-clause-now
+connection::visit_children-returns-clause-now t c = sym c.loop-child.invariant.rest ∙ visited_all _ _ _ _ _ c.loop-child-test.false
+
+-- ---- disconnects
+
+pub disconnection::stop_drivers-loop-agent-preserved : goal.disconnection::stop_drivers-loop-agent-preserved
+disconnection::stop_drivers-loop-agent-preserved t c = record {
+  rest =
+      sym (turns_next _ _ _ _ _ (c.loop-agent.failed, c.loop-agent.stopped.items) (c.note.new.failed, c.note.new.stopped.items) c.in_ok-turn.turn c.loop-agent.world.now c.take_stop_turn.new.world.now
+      c.loop-agent-test.true c.in_ok-turn.ensures.now c.in_ok-note.ensures)
+      ∙ c.loop-agent.invariant.rest;
+  marks = c.in_ok-turn.ensures.marks ∙ c.loop-agent.invariant.marks;
+  stacks = c.in_ok-turn.ensures.stacks ∙ c.loop-agent.invariant.stacks;
+  units = omega (arith, c.in_ok-turn.ensures.units, c.loop-agent.invariant.units);
+  events = omega (arith, c.in_ok-turn.ensures.events, c.loop-agent.invariant.events);
+}
+
+pub disconnection::stop_drivers-returns-clause-now : goal.disconnection::stop_drivers-returns-clause-now
+disconnection::stop_drivers-returns-clause-now t c =
+    through c.conclude.result _ _ _
+    (turns_all (level_at c.args.settings.now c.args.room) c.args.scope c.args.d.now c.args.agents.now c.loop-agent.agent-index (c.loop-agent.failed, c.loop-agent.stopped.items) c.args.world.now.now c.loop-agent.world.now
+    c.loop-agent-test.false (sym c.loop-agent.invariant.rest))
+    (rw (c.deref.ensures.value) at c.conclude.ensures)
+
+pub disconnection::disconnect_in_event-returns-clause-now : goal.disconnection::disconnect_in_event-returns-clause-now
+disconnection::disconnect_in_event-returns-clause-now t c =
+    through c.stop_drivers.result _ _ _
+    (disconnected_is c.args.settings.now c.args.room c.args.scope c.args.d.now c.in-Some.controller (Some c.deref.result.now) c.args.world.now.now (omega (arith, c.if-room-eq0.false))
+    (sym c.controller_of.ensures ∙ c.in-Some.is) (rw (c.deref.ensures.value) (rw (c.in-Some-2.is) at c.in_ok-agents.ensures)))
+    c.stop_drivers.ensures.now

@@ -1,0 +1,155 @@
+-- A call goes down a level, or down the order of the functions at one level.
+use Rattle.std.proofs.Common.{◌≡◌, ◌≤◌, ◌+◌, ◌*◌, false, [], length, drop}
+use Rattle.world_model.specs.Marks.{stacks}
+use Rattle.driver_model.specs.Moves.{plain}
+use Rattle.driver_model.specs.Connect.{asked, children_visited, search}
+use Rattle.driver_model.specs.Disconnect.{stop_turns}
+use Rattle.driver_model.specs.GuestRun.{run}
+use Rattle.driver_model.specs.Levels.{level_with}
+use Rattle.engine.specs.AtLevel.{level_at, level_below}
+use Rattle.engine.proofs.+engine.Given as goal
+
+abbrev pub decreases-connection::connect_in_event : goal.decreases-connection::connect_in_event
+decreases-connection::connect_in_event l = 32 * l.room + 1
+
+abbrev pub decreases-disconnection::disconnect_in_event : goal.decreases-disconnection::disconnect_in_event
+decreases-disconnection::disconnect_in_event l = 32 * l.room + 1
+
+abbrev pub decreases-connection::connect : goal.decreases-connection::connect
+decreases-connection::connect l = 32 * l.room + 2
+
+abbrev pub decreases-disconnection::disconnect : goal.decreases-disconnection::disconnect
+decreases-disconnection::disconnect l = 32 * l.room + 2
+
+abbrev pub decreases-connection::visit_child : goal.decreases-connection::visit_child
+decreases-connection::visit_child l = 32 * l.room + 3
+
+abbrev pub decreases-thunk_call::call_thunk : goal.decreases-thunk_call::call_thunk
+decreases-thunk_call::call_thunk l = 32 * l.room + 3
+
+abbrev pub decreases-connection::visit_children : goal.decreases-connection::visit_children
+decreases-connection::visit_children l = 32 * l.room + 4
+
+abbrev pub decreases-connection::connect_children : goal.decreases-connection::connect_children
+decreases-connection::connect_children l = 32 * l.room + 5
+
+abbrev pub decreases-native_call::reenter : goal.decreases-native_call::reenter
+decreases-native_call::reenter l = 32 * l.room + 8
+
+abbrev pub decreases-native_call::go_on : goal.decreases-native_call::go_on
+decreases-native_call::go_on l = 32 * l.room + 9
+
+abbrev pub decreases-native_call::call_service : goal.decreases-native_call::call_service
+decreases-native_call::call_service l = 32 * l.room + 10
+
+abbrev pub decreases-native_call::call_native : goal.decreases-native_call::call_native
+decreases-native_call::call_native l = 32 * l.room + 11
+
+abbrev pub decreases-guest_run::act : goal.decreases-guest_run::act
+decreases-guest_run::act l = 32 * l.room + 12
+
+abbrev pub decreases-guest_run::take_turn : goal.decreases-guest_run::take_turn
+decreases-guest_run::take_turn l = 32 * l.room + 13
+
+abbrev pub decreases-guest_run::run_code : goal.decreases-guest_run::run_code
+decreases-guest_run::run_code l = 32 * l.room + 14
+
+abbrev pub decreases-driver_call::run_on_stack : goal.decreases-driver_call::run_on_stack
+decreases-driver_call::run_on_stack l = 32 * l.room + 15
+
+abbrev pub decreases-driver_call::enter : goal.decreases-driver_call::enter
+decreases-driver_call::enter l = 32 * l.room + 16
+
+abbrev pub decreases-thunk_call::enter_thunk : goal.decreases-thunk_call::enter_thunk
+decreases-thunk_call::enter_thunk l = 32 * l.room + 16
+
+abbrev pub decreases-driver_call::call_driver : goal.decreases-driver_call::call_driver
+decreases-driver_call::call_driver l = 32 * l.room + 17
+
+abbrev pub decreases-search::ask : goal.decreases-search::ask
+decreases-search::ask l = 32 * l.room + 18
+
+abbrev pub decreases-stop_turn::stop_children : goal.decreases-stop_turn::stop_children
+decreases-stop_turn::stop_children l = 32 * l.room + 18
+
+abbrev pub decreases-stop_turn::stop_itself : goal.decreases-stop_turn::stop_itself
+decreases-stop_turn::stop_itself l = 32 * l.room + 18
+
+abbrev pub decreases-search::find : goal.decreases-search::find
+decreases-search::find l = 32 * l.room + 19
+
+abbrev pub decreases-stop_turn::stop_driver : goal.decreases-stop_turn::stop_driver
+decreases-stop_turn::stop_driver l = 32 * l.room + 19
+
+abbrev pub decreases-search::search : goal.decreases-search::search
+decreases-search::search l = 32 * l.room + 20
+
+abbrev pub decreases-stop_turn::take_stop_turn : goal.decreases-stop_turn::take_stop_turn
+decreases-stop_turn::take_stop_turn l = 32 * l.room + 20
+
+abbrev pub decreases-disconnection::stop_drivers : goal.decreases-disconnection::stop_drivers
+decreases-disconnection::stop_drivers l = 32 * l.room + 21
+
+-- ---- loops: what is left from here comes to the whole, and beside it the world is as it was
+
+abbrev pub invariant-guest_run::run_code-turns : goal.invariant-guest_run::run_code-turns
+invariant-guest_run::run_code-turns l = record {
+  rest :
+      run plain l.settings (level_below l.settings l.room) l.scope (level_with l.room) l.cpu l.world.now
+      ≡ run plain l.fn.settings (level_below l.fn.settings l.fn.room) l.fn.scope (level_with l.fn.room) l.fn.start l.fn.world.now;
+  marks : l.world.marks ≡ l.fn.world.marks;
+  stacks : stacks l.world.now.soft ≡ stacks l.fn.world.now.soft;
+  units : l.world.now.hard.units ≤ l.fn.world.now.hard.units;
+  events : length l.fn.world.now.hard.events ≤ length l.world.now.hard.events;
+}
+
+abbrev pub invariant-search::ask-loop-block : goal.invariant-search::ask-loop-block
+invariant-search::ask-loop-block l = record {
+  rest :
+      asked plain (level_at l.settings l.room) l.scope l.c (drop l.block-index l.blocks) l.world.now
+      ≡ asked plain (level_at l.fn.settings l.fn.room) l.fn.scope l.fn.c l.fn.blocks l.fn.world.now;
+  marks : l.world.marks ≡ l.fn.world.marks;
+  stacks : stacks l.world.now.soft ≡ stacks l.fn.world.now.soft;
+  units : l.world.now.hard.units ≤ l.fn.world.now.hard.units;
+  events : length l.fn.world.now.hard.events ≤ length l.world.now.hard.events;
+}
+
+abbrev pub invariant-connection::visit_children-loop-child : goal.invariant-connection::visit_children-loop-child
+invariant-connection::visit_children-loop-child l = record {
+  rest :
+      children_visited plain (level_at l.settings l.room) l.scope (drop l.child-index l.children) l.world.now
+      ≡ children_visited plain (level_at l.fn.settings l.fn.room) l.fn.scope l.fn.children l.fn.world.now;
+  marks : l.world.marks ≡ l.fn.world.marks;
+  stacks : stacks l.world.now.soft ≡ stacks l.fn.world.now.soft;
+  units : l.world.now.hard.units ≤ l.fn.world.now.hard.units;
+  events : length l.fn.world.now.hard.events ≤ length l.world.now.hard.events;
+}
+
+abbrev pub invariant-search::search-searches : goal.invariant-search::search-searches
+invariant-search::search-searches l = record {
+  rest :
+      search plain l.settings (level_at l.settings l.room) l.scope l.c l.context l.marked.items l.any l.world.now
+      ≡ search plain l.fn.settings (level_at l.fn.settings l.fn.room) l.fn.scope l.fn.c l.fn.context [] false l.fn.world.now;
+  marks : l.world.marks ≡ l.fn.world.marks;
+  stacks : stacks l.world.now.soft ≡ stacks l.fn.world.now.soft;
+  units : l.world.now.hard.units ≤ l.fn.world.now.hard.units;
+  events : length l.fn.world.now.hard.events ≤ length l.world.now.hard.events;
+}
+
+abbrev pub invariant-disconnection::stop_drivers-loop-agent : goal.invariant-disconnection::stop_drivers-loop-agent
+invariant-disconnection::stop_drivers-loop-agent l = record {
+  rest :
+      stop_turns plain (level_at l.settings l.room) l.scope l.d (drop l.agent-index l.agents) (l.failed, l.stopped.items) l.world.now
+      ≡ stop_turns plain (level_at l.fn.settings l.fn.room) l.fn.scope l.fn.d l.fn.agents (false, []) l.fn.world.now;
+  marks : l.world.marks ≡ l.fn.world.marks;
+  stacks : stacks l.world.now.soft ≡ stacks l.fn.world.now.soft;
+  units : l.world.now.hard.units ≤ l.fn.world.now.hard.units;
+  events : length l.fn.world.now.hard.events ≤ length l.world.now.hard.events;
+}
+
+-- each turn after which the run goes on, and each search that finds a driver, costs units
+abbrev pub decreases-guest_run::run_code-turns : goal.decreases-guest_run::run_code-turns
+decreases-guest_run::run_code-turns l = l.world.now.hard.units
+
+abbrev pub decreases-search::search-searches : goal.decreases-search::search-searches
+decreases-search::search-searches l = l.world.now.hard.units

@@ -1,0 +1,4 @@
+pub mod Turns
+pub mod Searches
+pub mod Stops
+pub mod Loads

@@ -1,0 +1,40 @@
+//! The engine that runs drivers over the world: ConnectController and DisconnectController, the
+//! driver calls that they make, the runs of EBC code inside those, and the services by which that
+//! code calls ConnectController and DisconnectController again, 32 levels deep (UEFI 2.8, 7.3, 11.1
+//! and chapter 22). It also loads images, whose entry points it calls (UEFI 2.8, 7.4).
+//!
+//! What each function does is a definition of `driver_model`, which its contract cites. The
+//! functions call each other in one cycle, which goes down a level with each driver call, each
+//! thunk that code calls, and each child that is connected:
+//!
+//! ```text
+//! connect, disconnect  ->  search, stop_turn  ->  driver_call  ->  guest_run  ->  native_call
+//!        ^                                                                            |
+//!        +----------------------------------------------------------------------------+
+//! ```
+//!
+//! A function takes the room of the level at which it works: how many levels are below it. Beside
+//! what it does, each says the same of the world. It asks that no level below has a stack, and that
+//! few marks are open (`world_model::laws`, `levels_are_free` and `marks_suffice`). It leaves the
+//! open marks and the stacks as they were, units never rise, and no event goes.
+//!
+//! What calls no driver is in `bind_parts`.
+#![tactic(auto)]
+
+mod connection;
+mod disconnection;
+mod driver_call;
+mod guest_run;
+mod image_load;
+mod native_call;
+mod search;
+mod stop_turn;
+mod thunk_call;
+
+pub use connection::connect;
+pub use disconnection::disconnect;
+pub use driver_call::call_driver;
+pub use image_load::{ImageLoad, load_image};
+
+#[cfg(test)]
+mod tests;

@@ -1,5 +1,0 @@
-use Rattle.engine_model.proofs.Levels.{loads_stay}
-use Rattle.engine_model.proofs.laws.loads_stay.Goals as goal
-
-pub returns : goal.returns
-returns c = loads_stay

@@ -1,5 +1,0 @@
-use Rattle.engine_model.proofs.Unloads.{unloads_that_fail_leave}
-use Rattle.engine_model.proofs.unload_laws.failed_unloads_leave.Goals as goal
-
-pub returns : goal.returns
-returns c = unloads_that_fail_leave

@@ -1,7 +1,0 @@
-use Rattle.engine_model.proofs.GoneImages.{unloaded_images_are_gone}
-use Rattle.engine_model.proofs.SameImages.{calls_leave_images}
-use Rattle.engine_model.proofs.Unloads.{unloads_that_succeed_sweep}
-use Rattle.engine_model.proofs.unload_laws.unloaded_images_are_gone.Goals as goal
-
-pub returns : goal.returns
-returns c = record { sweeps = unloads_that_succeed_sweep; loaded = calls_leave_images; gone = unloaded_images_are_gone }

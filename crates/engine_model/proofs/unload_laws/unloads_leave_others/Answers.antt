@@ -1,5 +1,0 @@
-use Rattle.engine_model.proofs.GoneImages.{unloads_leave_others}
-use Rattle.engine_model.proofs.unload_laws.unloads_leave_others.Goals as goal
-
-pub returns : goal.returns
-returns c = unloads_leave_others

@@ -1,8 +1,0 @@
-use Rattle.std.proofs.Common.{◌∙◌, ap}
-use Rattle.std.specs.List.{list_all}
-use Rattle.text_lines.specs.Words.{is_text_byte}
-use Rattle.replay_shell.proofs.ScriptLemmas.{word_at-text}
-use Rattle.replay_shell.proofs.read.command.Goals as goal
-
-pub text-requires : goal.text-requires
-text-requires c = ap (list_all is_text_byte) c.at.ensures ∙ word_at-text c.args.words.now 1 c.requires
