@@ -1,0 +1,3 @@
+; A counter.
+counter:
+        .byte 0, 0, 0, 0, 0, 0, 0, 0

@@ -1,0 +1,3 @@
+; The entry ends with the status of the last service.
+; 1 unit.
+        RET

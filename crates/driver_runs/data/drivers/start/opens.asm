@@ -1,0 +1,5 @@
+; Start opens the device.
+; 28 units.
+start:
+        CALL64 =open
+        RET

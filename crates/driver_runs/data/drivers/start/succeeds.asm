@@ -1,0 +1,4 @@
+; Start does nothing and succeeds.
+; 2 units.
+start:
+        RET

@@ -1,0 +1,5 @@
+; Stop closes the device.
+; 24 units.
+stop:
+        CALL64 =close
+        RET

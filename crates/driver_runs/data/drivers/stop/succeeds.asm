@@ -1,0 +1,4 @@
+; Stop does nothing and succeeds.
+; 2 units.
+stop:
+        RET

@@ -1,0 +1,4 @@
+; Supported succeeds for every controller: R7 is 0.
+; 2 units.
+supported:
+        RET

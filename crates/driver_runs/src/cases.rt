@@ -1,0 +1,94 @@
+use anyhow::{Context, Result};
+use std::alloc::Global;
+use std::fs;
+use std::rt::Files;
+
+/// A case of the file: its name and its lines.
+///
+/// A line `driver IMAGE PART ..` names an image file, and the listings of its code: `PART` is
+/// `drivers/PART.asm`, and each follows the one before. A line `file IMAGE LISTING` names an image
+/// file that the folder has, and its listing. All other lines are the report that is expected, and
+/// what follows `> ` in it is the script. A case with lines `script FILE` and `report FILE` has the
+/// script and the report in these files.
+#[derive(Drop)]
+pub struct Case<'a> {
+    pub name: &'a str,
+    pub lines: Vec<&'a str>,
+}
+
+/// The cases of a text. A line `case NAME` begins a case. Blank lines and lines that begin with
+/// `#` are left out.
+///
+/// # Errors
+///
+/// A line before the first case, and out of memory.
+pub fn cases_of<'a>(alloc: Global, text: &'a str) -> Result<Vec<Case<'a>>> {
+    let mut cases: Vec<Case<'a>> = Vec::new(alloc);
+    for line in text.lines() {
+        if let Some(name) = line.strip_prefix("case ") {
+            cases.push(Case {
+                name,
+                lines: Vec::new(alloc),
+            })?;
+        } else if !line.is_empty() && !line.starts_with('#') {
+            let case = cases.last_mut().context("a line before the first case")?;
+            case.lines.push(line)?;
+        }
+    }
+    Ok(cases)
+}
+
+impl Case<'_> {
+    /// The script.
+    ///
+    /// # Errors
+    ///
+    /// A file that can't be read, and out of memory.
+    pub fn script<R: Files + AllocGlobal>(&self, rt: &R) -> Result<String> {
+        if let Some(file) = self.file_after("script ") {
+            return Ok(fs::read_to_string(rt, file)?);
+        }
+        let mut script = String::new(rt.alloc());
+        for line in self.lines.as_slice() {
+            if let Some(command) = line.strip_prefix("> ") {
+                script.push_str(command)?;
+                script.push('\n')?;
+            }
+        }
+        Ok(script)
+    }
+
+    /// The report that is expected.
+    ///
+    /// # Errors
+    ///
+    /// A file that can't be read, and out of memory.
+    pub fn report<R: Files + AllocGlobal>(&self, rt: &R) -> Result<String> {
+        if let Some(file) = self.file_after("report ") {
+            return Ok(fs::read_to_string(rt, file)?);
+        }
+        let mut report = String::new(rt.alloc());
+        for line in self.lines.as_slice() {
+            if !names_files(line) {
+                report.push_str(line)?;
+                report.push('\n')?;
+            }
+        }
+        Ok(report)
+    }
+
+    /// The name of the file after these words, if a line begins with them.
+    fn file_after(&self, words: &str) -> Option<&str> {
+        for line in self.lines.as_slice() {
+            if let Some(file) = line.strip_prefix(words) {
+                return Some(file);
+            }
+        }
+        None
+    }
+}
+
+/// Whether a line names files, so that it is no line of the report.
+fn names_files(line: &str) -> bool {
+    line.starts_with("driver ") || line.starts_with("file ")
+}

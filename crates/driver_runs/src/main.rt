@@ -1,0 +1,60 @@
+//! Runs scripts over drivers that it assembles, and compares each report with the one that is
+//! expected.
+//!
+//! `cases.txt`, in the folder in which the program is started, has the cases. `cases` reads it,
+//! `drivers` makes the image files of a case, and `replay` runs its script over them. The program
+//! prints a line for each case, and last how many of them went as expected.
+#![tactic(auto)]
+
+mod cases;
+mod comparison;
+mod drivers;
+mod replay;
+
+use crate::cases::{Case, cases_of};
+use crate::comparison::first_difference;
+use crate::drivers::ImageShelf;
+use crate::replay::report_of;
+use anyhow::{Context, Result};
+use std::fs;
+use std::rt::Files;
+
+fn main(rt: HostRuntime) -> Result<()> {
+    run_all(&rt)
+}
+
+/// Runs every case of the file, and prints how each went.
+fn run_all<R: Files + AllocGlobal + Print>(rt: &R) -> Result<()> {
+    let text = fs::read_to_string(rt, "cases.txt").context("reading cases.txt")?;
+    let cases = cases_of(rt.alloc(), text.as_str())?;
+    let mut agreeing: u64 = 0;
+    for case in &cases {
+        if runs_as_expected(rt, case)? {
+            agreeing = agreeing.wrapping_add(1);
+        }
+    }
+    let count = cases.len();
+    println!(rt; "{agreeing} of {count} cases as expected")?;
+    Ok(())
+}
+
+/// Runs a case and prints how it went, and says whether that was as expected.
+fn runs_as_expected<R: Files + AllocGlobal + Print>(rt: &R, case: &Case) -> Result<bool> {
+    let name = case.name;
+    let mut shelf = ImageShelf::of(rt, case).context(format_args!("the drivers of {name}"))?;
+    let script = case.script(rt)?;
+    let expected = case.report(rt)?;
+    let report = report_of(rt.alloc(), script.as_bytes(), &mut shelf).context(format_args!(
+        "the script of {name}"
+    ))?;
+    match first_difference(report.as_str(), expected.as_str()) {
+        None => {
+            println!(rt; "{name}: as expected")?;
+            Ok(true)
+        }
+        Some(line) => {
+            println!(rt; "{name}: differs at line {line}")?;
+            Ok(false)
+        }
+    }
+}
