@@ -1,18 +1,15 @@
 -- Placing an image in the world (UEFI 2.8, 7.4: LoadImage): its file is checked, its
 -- laying is paid, and it is added, unless a limit is met.
-use Rattle.std.specs.Prelude.{◌≡◌, ℕ, ◌+◌, ◌/◌, nat_lt, List, Option, Some, None, Result, Ok, Err, if◌then◌else◌}
+use Rattle.std.specs.Prelude.{◌≡◌, ℕ, nat_lt, List, Option, Some, None, Result, Ok, Err, if◌then◌else◌}
 use Rattle.fw_types.specs.declared.image.PeRefusal.{PeRefusal}
 use Rattle.pe_image.specs.ImageRules.{entry_of, refusal_of, size_of, subsystem_of}
 use Rattle.pe_image.specs.LaidImage.{laid}
 use Rattle.world_model.specs.World.{Soft, State, on_hard, on_soft}
 use Rattle.world_model.specs.Units.{units_spent}
 use Rattle.world_model.specs.Images.{image_added, is_image_full}
+use Rattle.driver_model.specs.ImageLife.{laying_price}
 use Rattle.image_table.specs.declared.fault.PlaceFault.{PlaceFault}
 use Rattle.image_table.specs.declared.fault.PlaceFault.TheVariants.{Refused, Units, Full, OutOfMemory}
-
--- laying an image costs a unit for each 64 bytes of its size, rounded up
-abbrev pub laying_price : List ℕ → ℕ
-laying_price file = (size_of file + 63) / 64
 
 -- ---- the answer
 

@@ -3,7 +3,8 @@ ghost use Rattle.pe_image.specs.ImageRules.{entry_of as entry_place, size_of};
 ghost use Rattle.world_model.specs.World.{on_hard, on_soft};
 ghost use Rattle.world_model.specs.Units.{units_spent};
 ghost use Rattle.world_model.specs.Images.{entry_of, is_image_full};
-ghost use Rattle.image_table.specs.Placing.{Gives, UnlessMemory, file_added, laying_price, place_answer, placed, placed_unless, unless_refused};
+ghost use Rattle.driver_model.specs.ImageLife.{laying_price};
+ghost use Rattle.image_table.specs.Placing.{Gives, UnlessMemory, file_added, place_answer, placed, placed_unless, unless_refused};
 
 use crate::fault::PlaceFault;
 use fw_types::{Handle, OutOfMemory};
