@@ -7,6 +7,8 @@
 //! - `native_calls`: what a native call of EBC code goes to, with what arguments, and how it
 //!   returns.
 //! - `thunk_request`: the thunks that code asks for; `run_end`: how code ends.
+//! - `removal`, `uninstalling`: what OpenProtocol and the uninstalls do around the disconnect of a
+//!   driver.
 //! - `handles`: live handles and children; `stopping`: what DisconnectController looks at and
 //!   closes.
 //!
@@ -17,15 +19,18 @@ mod asking;
 mod driver_calls;
 mod handles;
 mod native_calls;
+mod removal;
 mod run_end;
 mod settling;
 mod stopping;
 mod thunk_request;
+mod uninstalling;
 
 pub use asking::{driver_call, drivers_to_ask};
 pub use driver_calls::{allowance, code_of, event_kind, is_success, outcome_of};
 pub use handles::{children_of, live_handle, numbers_of};
 pub use native_calls::{callee, caller, passed_slots, serve_caller, take_answer, take_end};
+pub use removal::{is_passed_on, look_again};
 pub use run_end::{exit_of, trapped};
 pub use settling::settle;
 pub use stopping::{
@@ -33,3 +38,6 @@ pub use stopping::{
     note, stop_call,
 };
 pub use thunk_request::meet_request;
+pub use uninstalling::{
+    handle_to_clear, is_first_there, is_kept_from_drivers, manager_on, remove_interface, settle_all,
+};

@@ -30,9 +30,10 @@ use Rattle.world_model.specs.Thunks.{thunk_answer}
 use Rattle.world_model.specs.Units.{units_aside}
 use Rattle.service_model.specs.Allowed.{is_of_image}
 use Rattle.service_model.specs.BootServices.{served}
-use Rattle.service_model.specs.SecondLook.{Removal}
+use Rattle.service_model.specs.declared.call.HandleInterface.{HandleInterface}
 use Rattle.service_model.specs.declared.call.Reentry.{Reentry}
-use Rattle.service_model.specs.declared.call.Reentry.TheVariants.{Connect, Disconnect}
+use Rattle.service_model.specs.declared.call.Reentry.TheVariants.{Connect, Disconnect, Remove, Uninstall, UninstallMany}
+use Rattle.service_model.specs.declared.call.Removal.{Removal}
 use Rattle.service_model.specs.declared.call.Served.{Served}
 use Rattle.service_model.specs.declared.call.Served.TheVariants as served_as
 use Rattle.driver_model.specs.Moves.{Move, Operations, changed, pays, caps, returns, begins_event, ends_event, steps, serves, looks_again, makes_thunk, pushes, pops, sets_tpl, puts_back, closes_all, closes_child, drops_weak, uninstalls}
@@ -44,7 +45,7 @@ use Rattle.driver_model.specs.Activations.{activation_begun, activation_ended, i
 use Rattle.driver_model.specs.Connect.{asked, child_connection, child_visited, children_visited, connect, connected, driver_call, found, recursive_number, searches, started, with_children}
 use Rattle.driver_model.specs.Disconnect.{after_children, after_itself, are_all, children_closed, children_stopped, children_to_stop, disconnect, disconnected, is_meaningless, is_of_another, itself_stopped, manages, stop_call, stop_turn, stop_turns, stopped_by, then_itself, turn_by}
 use Rattle.driver_model.specs.OpenWithRemoval.{after_removal, is_passed_on, removed}
-use Rattle.driver_model.specs.UninstallWithReconnection.{ADriver, HandleInterface, Remover, TheFirmware, after_release, all_or_none, each_uninstalled, interface_on, is_first_there, is_kept_from, is_still_there, manager_on, many_uninstalled, records_on, released, taken_away, uninstalled, unless_open}
+use Rattle.driver_model.specs.UninstallWithReconnection.{ADriver, Remover, TheFirmware, after_release, all_or_none, each_uninstalled, interface_on, is_first_there, is_kept_from, is_still_there, manager_on, many_uninstalled, records_on, released, taken_away, uninstalled, unless_open}
 use Rattle.driver_model.specs.GoingOn.{gone_on, reentered}
 use Rattle.driver_model.specs.ThunkRequests.{◌>>◌, entry_from, is_even, must, requested_entry, thunk_by, thunk_for}
 use Rattle.driver_model.specs.NativeCalls.{callee, caller, native_called, passed_slots, returned, service_called, thunk_entered, thunk_returned}
@@ -360,12 +361,12 @@ module _ {S : Type 0} (o : Operations S) (is_listable : List ℕ → Bool) (R : 
     -- ---- services that go on
 
     after_removal_keeps : (removal : Removal) (r : Status × S) → R level r.1 (after_removal o removal r).1
-    after_removal_keeps removal r = choose (λ (x : Served × S). R level r.1 x.1) (is_passed_on r.0) _ _ (kept.same level r.1) (kept.moves level (looks_again removal) r.1 refl)
+    after_removal_keeps removal r = choose (λ (x : Served × S). R level r.1 x.1) (is_passed_on r.0) _ _ (kept.same level r.1) (kept.moves level (looks_again removal.opening) r.1 refl)
 
     pub removed_keeps : (removal : Removal) (w : S) → R level w (removed o b scope removal w).1
     unfolding removed
     removed_keeps removal w =
-        let d : Disconnection = record { controller = removal.handle; driver = removal.victim; child = 0 } in
+        let d : Disconnection = record { controller = removal.opening.handle; driver = removal.victim; child = 0 } in
         kept.joined level _ _ _ (disconnect_keeps level b k scope d w) (after_removal_keeps removal (disconnect o b scope d w))
 
     pub reentered_keeps : (reentry : Reentry) (w : S) → R level w (reentered o settings b scope reentry w).1
@@ -374,6 +375,9 @@ module _ {S : Type 0} (o : Operations S) (is_listable : List ℕ → Bool) (R : 
         connect_keeps level b k scope (record { controller = controller; path = path; at_end = at_end; recursive = recursive }) context w
     reentered_keeps (Disconnect controller driver child) w =
         disconnect_keeps level b k scope (record { controller = controller; driver = driver; child = child }) w
+    reentered_keeps (Remove removal) w = removed_keeps removal w
+    reentered_keeps (Uninstall i) w = uninstalled_keeps ADriver i tt w
+    reentered_keeps (UninstallMany interfaces) w = many_keeps interfaces w
 
     gone_on_keeps : (came : Served) (w : S) → R level w (gone_on o settings b scope (came, w)).1
     gone_on_keeps (served_as.Value value) w = kept.same level w

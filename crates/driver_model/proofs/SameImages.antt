@@ -32,7 +32,6 @@ images_by_changes = record {
   allot = λ soft bytes kept room. refl;
   free = λ soft at kept done. refl;
   install = λ soft handle new kept fine. refl;
-  uninstall = λ soft handle name kept free. refl;
   enter = λ soft handle name agent controller attr kept can. refl;
   leave = λ soft handle name agent controller kept. refl;
 }
@@ -45,7 +44,7 @@ move_images (begins_event parent kind driver controller extra) w can kept = refl
 move_images (ends_event serial outcome) w can kept = refl
 move_images (steps cpu) w can kept = refl
 move_images (serves service caller) w can kept = services-go HasImagesOf images_by_changes ground rows-allowed service caller w kept
-move_images (looks_again removal) w can kept = second_look-goes HasImagesOf images_by_changes ground removal w kept
+move_images (looks_again opening) w can kept = second_look-goes HasImagesOf images_by_changes ground opening w kept
 move_images (makes_thunk place entry at) w can kept = refl
 move_images (pushes level slots children) w can kept = absurd cc
 move_images (pops level) w can kept = refl

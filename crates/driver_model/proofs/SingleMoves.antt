@@ -50,13 +50,12 @@ kept_by_changes = kept-by (record {
   allots = allotting;
   frees = freeing;
   installs = installing;
-  uninstalls = uninstalling;
   enters = entering;
   leaves = leaving;
 })
 
 pub ground : Ground
-ground = record { keeps = kept_by_changes; fits = fitting; puts = puts-writable; lasting = images-go }
+ground = record { keeps = kept_by_changes; fits = fitting; puts = puts-writable }
 
 -- ---- one change, and one after another
 
@@ -105,7 +104,6 @@ stays_by_changes = record {
     bytes = bytes_by_tests soft (block_freed at soft) (λ test all. list_all-unmapped (if_fixed test) at soft.memory all);
   };
   install = λ soft handle new kept fine. beside_memory soft _ refl refl (installing soft handle new kept fine);
-  uninstall = λ soft handle name kept free. beside_memory soft _ refl refl (uninstalling soft handle name kept free);
   enter = λ soft handle name agent controller attr kept can. beside_memory soft _ refl refl (kept_by_changes.enter soft handle name agent controller attr kept can);
   leave = λ soft handle name agent controller kept. beside_memory soft _ refl refl (leaving soft handle name agent controller kept);
 }
@@ -173,7 +171,7 @@ move_stays (begins_event parent kind driver controller extra) w can kept = absur
 move_stays (ends_event serial outcome) w can kept = same_stays w.soft kept
 move_stays (steps cpu) w can kept = step_stays cpu w kept
 move_stays (serves service caller) w can kept = services-go Stays stays_by_changes ground rows-allowed service caller w kept
-move_stays (looks_again removal) w can kept = second_look-goes Stays stays_by_changes ground removal w kept
+move_stays (looks_again opening) w can kept = second_look-goes Stays stays_by_changes ground opening w kept
 move_stays (makes_thunk place entry at) w can kept = thunk_stays place entry at w kept can
 move_stays (pushes level slots children) w can kept = absurd cc
 move_stays (pops level) w can kept = absurd cc

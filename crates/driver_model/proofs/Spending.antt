@@ -114,7 +114,7 @@ module _ (events_stay : EventsStay) (units_fall : UnitsNeverRise) (looks : Spend
       }
   moved (steps cpu) w is = still w.hard _ refl
   moved (serves s c) w is = fallen w.hard _ (events_stay s c w) (units_fall s c w)
-  moved (looks_again removal) w is = still w.hard _ (looks removal w)
+  moved (looks_again opening) w is = still w.hard _ (looks opening w)
   moved (makes_thunk place entry at) w is = still w.hard _ refl
   moved (pushes level slots children) w is = absurd cc
   moved (pops level) w is = absurd cc

@@ -24,7 +24,7 @@ is_allowed (begins_event parent kind driver controller extra) w = false
 is_allowed (ends_event serial outcome) w = true
 is_allowed (steps cpu) w = true
 is_allowed (serves service caller) w = true
-is_allowed (looks_again removal) w = true
+is_allowed (looks_again opening) w = true
 -- the address of the thunk can be stored, its entry lies in an image, and a number is left
 is_allowed (makes_thunk place entry at) w =
     is_writable_range w.soft.memory place 8 && (is_some (image_at entry w.soft) && is_ok (thunk_answer w.soft))

@@ -1,14 +1,15 @@
 -- What a service goes on with that enters the driver model again (UEFI 2.8, 7.3).
 use Rattle.std.specs.Prelude.{Option}
 use Rattle.service_model.specs.declared.call.Reentry.{Reentry}
-use Rattle.service_model.specs.declared.call.Reentry.TheVariants.{Connect, Disconnect}
+use Rattle.service_model.specs.declared.call.Reentry.TheVariants.{Connect, Disconnect, Remove, Uninstall, UninstallMany}
 use Rattle.service_model.specs.declared.call.Served.{Served}
 use Rattle.service_model.specs.declared.call.Served.TheVariants.{Value, Trap, Again}
 use Rattle.driver_model.specs.Moves.{Operations}
 use Rattle.driver_model.specs.Level.{Level}
 use Rattle.driver_model.specs.Connect.{connect}
 use Rattle.driver_model.specs.Disconnect.{disconnect}
-use Rattle.driver_model.specs.OpenWithRemoval.{status_answer}
+use Rattle.driver_model.specs.OpenWithRemoval.{removed, status_answer}
+use Rattle.driver_model.specs.UninstallWithReconnection.{ADriver, many_uninstalled, uninstalled}
 use Rattle.driver_model.specs.declared.call.Scope.{Scope}
 use Rattle.driver_model.specs.declared.settings.Settings.{Settings}
 
@@ -19,6 +20,9 @@ module _ {S : Type 0} (o : Operations S) where
       status_answer (connect o settings below scope (record { controller = controller; path = path; at_end = at_end; recursive = recursive }) context w)
   reentered settings below scope (Disconnect controller driver child) w =
       status_answer (disconnect o below scope (record { controller = controller; driver = driver; child = child }) w)
+  reentered settings below scope (Remove removal) w = removed o below scope removal w
+  reentered settings below scope (Uninstall i) w = status_answer (uninstalled o settings below scope ADriver i w)
+  reentered settings below scope (UninstallMany interfaces) w = status_answer (many_uninstalled o settings below scope interfaces w)
 
   -- what a service answers in the end
   abbrev pub gone_on : Settings → Option (Level S) → Scope → Served × S → Served × S

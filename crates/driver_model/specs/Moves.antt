@@ -17,8 +17,9 @@ use Rattle.world_model.specs.Records.{all_left, child_left, weak_dropped}
 use Rattle.world_model.specs.Images.{image_added}
 use Rattle.service_model.specs.BootServices.{served}
 use Rattle.service_model.specs.Changes.{number_stored}
-use Rattle.service_model.specs.SecondLook.{Removal, looked_again}
+use Rattle.service_model.specs.SecondLook.{looked_again}
 use Rattle.service_model.specs.declared.call.Caller.{Caller}
+use Rattle.service_model.specs.declared.call.Opening.{Opening}
 use Rattle.driver_model.specs.ImageSweep.{image_swept}
 
 pub data Move : Type 0 where
@@ -32,7 +33,7 @@ pub data Move : Type 0 where
   -- code: a step; a service; the second look of an open; a thunk that is made, with its address stored
   steps : Cpu → Move
   serves : Service → Caller → Move
-  looks_again : Removal → Move
+  looks_again : Opening → Move
   makes_thunk : (place entry at : ℕ) → Move
   -- the stack of a driver call or of a thunk
   pushes : (level : ℕ) → (slots children : List ℕ) → Move
@@ -58,7 +59,7 @@ changed (begins_event parent kind driver controller extra) w = on_hard (event_be
 changed (ends_event serial outcome) w = on_hard (event_ended serial outcome) w
 changed (steps cpu) w = on_soft (with_memory (stepped cpu w.soft.memory).segments) w
 changed (serves service caller) w = (served service caller w).1
-changed (looks_again removal) w = (looked_again removal w).1
+changed (looks_again opening) w = (looked_again opening w).1
 changed (makes_thunk place entry at) w = number_stored place at (on_soft (thunk_made entry) w)
 changed (pushes level slots children) w = on_soft (stack_pushed level slots children) w
 changed (pops level) w = on_soft (stack_popped level) w

@@ -9,7 +9,8 @@
 use Rattle.std.specs.Prelude.{Bool, ◌||◌, nat_eq, Option, if◌then◌else◌}
 use Rattle.fw_types.specs.declared.status.Status.{Status}
 use Rattle.fw_types.specs.declared.status.TheConstants.Status.{ABORTED, OUT_OF_RESOURCES}
-use Rattle.service_model.specs.SecondLook.{Removal, looked_again}
+use Rattle.service_model.specs.SecondLook.{looked_again}
+use Rattle.service_model.specs.declared.call.Removal.{Removal}
 use Rattle.service_model.specs.declared.call.Served.{Served}
 use Rattle.service_model.specs.declared.call.Served.TheVariants.{Value}
 use Rattle.driver_model.specs.Moves.{Operations, looks_again}
@@ -29,8 +30,8 @@ module _ {S : Type 0} (o : Operations S) where
   abbrev pub after_removal : Removal → Status × S → Served × S
   after_removal removal r =
       if is_passed_on r.0 then status_answer r
-      else ((looked_again removal (o.see r.1)).0, o.make (looks_again removal) r.1)
+      else ((looked_again removal.opening (o.see r.1)).0, o.make (looks_again removal.opening) r.1)
 
   unfoldable pub removed : Option (Level S) → Scope → Removal → S → Served × S
   removed below scope removal w =
-      after_removal removal (disconnect o below scope (record { controller = removal.handle; driver = removal.victim; child = 0 }) w)
+      after_removal removal (disconnect o below scope (record { controller = removal.opening.handle; driver = removal.victim; child = 0 }) w)

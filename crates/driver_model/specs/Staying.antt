@@ -13,14 +13,15 @@ use Rattle.world_model.specs.Kept.{IsKept}
 use Rattle.world_model.specs.CommandPath.{has_no_path, has_path_at_most}
 use Rattle.world_model.specs.Marks.{stacks}
 use Rattle.world_model.specs.Levels.{is_free}
-use Rattle.service_model.specs.SecondLook.{Removal}
+use Rattle.service_model.specs.declared.call.HandleInterface.{HandleInterface}
 use Rattle.service_model.specs.declared.call.Reentry.{Reentry}
+use Rattle.service_model.specs.declared.call.Removal.{Removal}
 use Rattle.driver_model.specs.Moves.{changed, plain, steps}
 use Rattle.driver_model.specs.Allowed.{has_sixteen}
 use Rattle.driver_model.specs.Connect.{connect}
 use Rattle.driver_model.specs.Disconnect.{disconnect}
 use Rattle.driver_model.specs.OpenWithRemoval.{removed}
-use Rattle.driver_model.specs.UninstallWithReconnection.{ADriver, HandleInterface, many_uninstalled, uninstalled}
+use Rattle.driver_model.specs.UninstallWithReconnection.{ADriver, many_uninstalled, uninstalled}
 use Rattle.driver_model.specs.GoingOn.{reentered}
 use Rattle.driver_model.specs.GuestRun.{run, turn}
 use Rattle.driver_model.specs.DriverCall.{called, thunk_ran}

@@ -19,6 +19,7 @@ use Rattle.open_records.specs.Managing.{is_managing}
 use Rattle.open_records.specs.declared.open_record.Rec.{Rec}
 use Rattle.world_model.specs.World.{Soft}
 use Rattle.world_model.specs.Interfaces.{firmware}
+use Rattle.service_model.specs.declared.call.HandleInterface.{HandleInterface}
 use Rattle.driver_model.specs.Moves.{Operations, drops_weak, puts_back, uninstalls}
 use Rattle.driver_model.specs.Level.{Level}
 use Rattle.driver_model.specs.Connect.{child_connection, connect}
@@ -26,12 +27,6 @@ use Rattle.driver_model.specs.Disconnect.{disconnect}
 use Rattle.driver_model.specs.OpenWithRemoval.{is_passed_on}
 use Rattle.driver_model.specs.declared.call.Scope.{Scope}
 use Rattle.driver_model.specs.declared.settings.Settings.{Settings}
-
--- an interface of a handle
-pub record HandleInterface : Type 0 where
-  pub handle : ℕ
-  pub guid : List ℕ
-  pub interface : ℕ
 
 -- who uninstalls: the firmware, which is the bus driver, or a driver
 pub data Remover : Type 0 where

@@ -2,3 +2,4 @@ pub mod Turns
 pub mod Searches
 pub mod Stops
 pub mod Loads
+pub mod Uninstalls

@@ -1,6 +1,6 @@
 //! The engine that runs drivers over the world: ConnectController and DisconnectController, the
 //! driver calls that they make, the runs of EBC code inside those, and the services by which that
-//! code calls ConnectController and DisconnectController again, 32 levels deep (UEFI 2.8, 7.3, 11.1
+//! code enters the driver model again, 32 levels deep (UEFI 2.8, 7.3, 11.1
 //! and chapter 22). It also loads images, whose entry points it calls (UEFI 2.8, 7.4).
 //!
 //! What each function does is a definition of `driver_model`, which its contract cites. The
@@ -27,9 +27,11 @@ mod driver_call;
 mod guest_run;
 mod image_load;
 mod native_call;
+mod removal;
 mod search;
 mod stop_turn;
 mod thunk_call;
+mod uninstallation;
 
 pub use connection::connect;
 pub use disconnection::disconnect;

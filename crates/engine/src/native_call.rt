@@ -14,7 +14,9 @@ ghost use Rattle.bind_parts.specs.Events.{NoFewerEvents};
 
 use crate::connection::connect;
 use crate::disconnection::disconnect;
+use crate::removal::remove;
 use crate::thunk_call::call_thunk;
+use crate::uninstallation::{uninstall, uninstall_many};
 use bind_parts::{callee, caller, serve_caller, take_answer, trapped};
 use driver_model::{Callee, Connection, Disconnection, RunEnd, Scope, Settings};
 use ebc_machine::Cpu;
@@ -170,6 +172,15 @@ fn reenter(
                 child,
             };
             let status = disconnect(world, settings, room, scope, &d)?;
+            Ok(Served::Value(status.0))
+        }
+        Reentry::Remove(removal) => remove(world, settings, room, scope, &removal),
+        Reentry::Uninstall(i) => {
+            let status = uninstall(world, settings, room, scope, &i)?;
+            Ok(Served::Value(status.0))
+        }
+        Reentry::UninstallMany(interfaces) => {
+            let status = uninstall_many(world, settings, room, scope, interfaces.as_slice())?;
             Ok(Served::Value(status.0))
         }
     }

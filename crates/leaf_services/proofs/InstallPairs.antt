@@ -1,5 +1,5 @@
 -- Pairs that can be installed: the next one is not refused.
-use Rattle.std.proofs.Common.{◌≡◌, ◌<◌, ◌≤◌, ◌+◌, ℕ, suc, Bool, true, refl, sym, ap, ◌∙◌, arith}
+use Rattle.std.proofs.Common.{◌≡◌, ◌<◌, ℕ, suc, true, refl, sym, ap, ◌∙◌, arith}
 use Rattle.std.specs.Prelude.{Option, Result, Ok, Err, is_ok}
 use Rattle.world_model.specs.World.{State}
 use Rattle.world_model.specs.Kept.{IsKept}

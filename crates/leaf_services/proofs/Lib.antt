@@ -4,3 +4,4 @@ pub mod BlockContents
 pub mod InstallPairs
 pub mod ServiceEnds
 pub mod HandleList
+pub mod PairReads

@@ -2,16 +2,17 @@
 ghost use Rattle.std.specs.Prelude.{◌≡◌, ◌≤◌, ◌%◌, ◌^◌, IfOk, OnOk, false, true};
 ghost use Rattle.service_thunks.specs.Arguments.{most_arguments};
 ghost use Rattle.service_model.specs.Allowed.{is_allowed};
+ghost use Rattle.service_model.specs.SecondLook.{looked_again, second_look};
 ghost use Rattle.service_model.specs.Untouched.{goes_on, may_go_on};
 ghost use Rattle.service_model.specs.BootServices.{end_of_row, is_boot_service, pool_price, priced_after, priced_first, row, served, with_arguments, with_price};
 
 use crate::changes::apply;
 use fw_types::{Cause, MOST_BYTES, OutOfMemory};
 use fw_world::World;
-use service_model::laws::{rows_are_allowed, services_end};
-use service_model::{Caller, Change, Served, Stop};
+use service_model::laws::{rows_are_allowed, second_looks_end, services_end};
+use service_model::{Caller, Change, Opening, Served, Stop};
 use service_rows::connecting::{connect_controller, disconnect_controller};
-use service_rows::many::{first_pair, install_multiple};
+use service_rows::many::{first_pair, install_multiple, uninstall_multiple};
 use service_rows::protocols::{
     close, handle_protocol, install, locate_handle, locate_handle_buffer, locate_protocol,
     open_protocol, open_protocol_information, protocols_per_handle, uninstall,
@@ -19,6 +20,7 @@ use service_rows::protocols::{
 use service_rows::rows::{
     allocate_pool, copy_mem, free_pool, raise_tpl, restore_tpl, set_mem, stall, unbuilt,
 };
+use service_rows::second_look::second_look;
 use service_rows::words::slots;
 use service_thunks::Service;
 
@@ -34,7 +36,8 @@ fn slots_of(s: Service) -> u8
         | Service::RestoreTpl
         | Service::FreePool
         | Service::Stall
-        | Service::InstallMultiple => 1,
+        | Service::InstallMultiple
+        | Service::UninstallMultiple => 1,
         Service::AllocatePool
         | Service::CopyMem
         | Service::SetMem
@@ -49,8 +52,7 @@ fn slots_of(s: Service) -> u8
         | Service::OpenProtocolInformation => 4,
         Service::LocateHandle | Service::LocateHandleBuffer => 5,
         Service::OpenProtocol => 6,
-        Service::UninstallMultiple
-        | Service::MemRead
+        Service::MemRead
         | Service::MemWrite
         | Service::PciRead
         | Service::PciWrite
@@ -86,7 +88,8 @@ fn price_of(s: Service, a: &[u64; 16]) -> u64
         | Service::ProtocolsPerHandle
         | Service::LocateHandleBuffer
         | Service::LocateProtocol
-        | Service::InstallMultiple => 16,
+        | Service::InstallMultiple
+        | Service::UninstallMultiple => 16,
         Service::AllocatePool => pool_price(a[1]),
         Service::CopyMem => 1 + a[2].div_ceil(8),
         Service::SetMem => 1 + a[1].div_ceil(8),
@@ -95,7 +98,6 @@ fn price_of(s: Service, a: &[u64; 16]) -> u64
         | Service::Stall
         | Service::ConnectController
         | Service::DisconnectController
-        | Service::UninstallMultiple
         | Service::MemRead
         | Service::MemWrite
         | Service::PciRead
@@ -155,9 +157,9 @@ fn change_for(s: Service, c: &Caller, a: &[u64; 16], w: &World) -> Result<Change
         Service::CopyMem => copy_mem(a[0], a[1], a[2], w),
         Service::SetMem => set_mem(a[0], a[1], low8(a[2]), w),
         Service::ConnectController => connect_controller(a[0], a[1], a[2], low8(a[3]), w),
+        Service::UninstallMultiple => uninstall_multiple(a[0], first_pair(c.sp), w),
         Service::DisconnectController => disconnect_controller(a[0], a[1], a[2], w),
-        Service::UninstallMultiple
-        | Service::MemRead
+        Service::MemRead
         | Service::MemWrite
         | Service::PciRead
         | Service::PciWrite
@@ -254,8 +256,9 @@ fn serve_row(w: &mut World, s: Service, c: &Caller) -> Result<Served, OutOfMemor
 /// with `Budget`, and nothing is spent. Then the arguments are read, and if one can't be read the answer
 /// is `Trap` with `Memory`. If the price names an argument, they are read before it, and then nothing is
 /// spent. Then come the statuses of the service in their order, and traps with `Memory` for bytes that it
-/// can't read or write. A service that is not built answers UNSUPPORTED. ConnectController and
-/// DisconnectController may answer `Again`, and no other service does.
+/// can't read or write. A service that is not built answers UNSUPPORTED. ConnectController, DisconnectController,
+/// OpenProtocol, UninstallProtocolInterface and UninstallMultipleProtocolInterfaces may answer `Again`, and
+/// no other service does.
 ///
 /// # Errors
 ///
@@ -268,4 +271,44 @@ pub fn serve(w: &mut World, s: Service, c: &Caller) -> Result<Served, OutOfMemor
 {
     services_end();
     serve_row(w, s, c)
+}
+
+// ---- the second look of an open
+
+/// The change that a second look ends with, which can be applied, or why it stops.
+fn allowed_look(o: &Opening, w: &World) -> Result<Change, Stop>
+    ensures value { result ≡ second_look o.now w.now.now }
+    ensures allowed { IfOk result (λ change. is_allowed change w.now.now ≡ true) }
+{
+    second_looks_end();
+    second_look(o, w)
+}
+
+/// Looks at an open again and answers it, after the driver in its way was disconnected.
+#[tactic(auto, unfolding(service_model::specs::SecondLook::looked_again))]
+fn answer_look(w: &mut World, o: &Opening) -> Result<Served, OutOfMemory>
+    ensures now { IfOk result (λ answer. looked_again o.now w.old.now ≡ (answer, w.new.now)) }
+    ensures marks { OnOk result (w.new.marks ≡ w.old.marks) }
+{
+    let change = allowed_look(o, w);
+    end_row(change, w)
+}
+
+/// Answers an OpenProtocol whose driver was in the way and was disconnected (UEFI 2.8, 7.3). That driver's
+/// Stop may have changed anything, so the conditions of the open are looked at again in their order, with
+/// the arguments and the GUID as they were first read. If any agent has the interface open with BY_DRIVER
+/// or EXCLUSIVE, the answer is ACCESS_DENIED, and if there are as many records as there may be,
+/// OUT_OF_RESOURCES. Otherwise the open is recorded and the interface is stored. No units are spent, and
+/// the answer is never `Again`.
+///
+/// # Errors
+///
+/// `OutOfMemory` if there is no memory.
+pub fn reopen(w: &mut World, o: &Opening) -> Result<Served, OutOfMemory>
+    ensures now { IfOk result (λ answer. looked_again o.now w.old.now ≡ (answer, w.new.now)) }
+    ensures marks { OnOk result (w.new.marks ≡ w.old.marks) }
+    ensures ends { IfOk result (λ answer. goes_on answer ≡ false) }
+{
+    second_looks_end();
+    answer_look(w, o)
 }

@@ -5,8 +5,8 @@ ghost use Rattle.service_model.specs.Allowed.{can_store, is_allowed};
 ghost use Rattle.service_model.specs.Changes.{applied};
 
 use crate::buffers::{return_block, store_handles};
-use crate::interfaces::{enter, install, install_many, leave, uninstall};
-use crate::reentries::connect;
+use crate::interfaces::{enter, install, install_many, leave};
+use crate::reentries::{connect, uninstall_many};
 use crate::storing::{allot, store, store_if, with_status};
 use fw_types::{OutOfMemory, Status};
 use fw_world::{World, WorldFault};
@@ -137,7 +137,6 @@ pub fn apply(change: Change, w: &mut World) -> Result<Served, OutOfMemory>
             owner,
             out,
         } => install_many(&handle, list, count, owner, out, w),
-        Change::Uninstall { handle, guid } => uninstall(handle, guid, w),
         Change::Open {
             handle,
             guid,
@@ -177,5 +176,12 @@ pub fn apply(change: Change, w: &mut World) -> Result<Served, OutOfMemory>
             driver,
             child,
         })),
+        Change::Remove(removal) => Ok(Served::Again(Reentry::Remove(removal))),
+        Change::Uninstall(i) => Ok(Served::Again(Reentry::Uninstall(i))),
+        Change::UninstallMany {
+            handle,
+            list,
+            count,
+        } => uninstall_many(handle, list, count, w),
     }
 }

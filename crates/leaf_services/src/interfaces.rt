@@ -10,7 +10,7 @@ use fw_types::{Attr, Guid, Handle, OutOfMemory, Status};
 use fw_world::World;
 use handle_db::DbRefusal;
 use open_records::RecFault;
-use service_model::laws::{images_do_not_last, pairs_are_installed};
+use service_model::laws::pairs_are_installed;
 use service_model::{Change, MOST_PAIRS, Served};
 use service_rows::many::pair_at;
 
@@ -139,21 +139,6 @@ pub fn install_many(
         store_new_handle(handle, out, new, w)?;
     }
     Ok(with_status(Status::SUCCESS))
-}
-
-/// Uninstalls an interface that an image owns, with the records on it.
-pub fn uninstall(handle: Handle, guid: Guid, w: &mut World) -> Result<Served, OutOfMemory>
-    requires { is_allowed (Change.Uninstall handle guid) w.old.now ≡ true }
-    ensures now { IfOk result (λ served. applied (Change.Uninstall handle guid) w.old.now ≡ (served, w.new.now)) }
-    ensures marks { OnOk result (w.new.marks ≡ w.old.marks) }
-{
-    images_do_not_last();
-    w.is_kept();
-    match w.uninstall(handle, guid) {
-        Ok(()) => Ok(with_status(Status::SUCCESS)),
-        Err(DbRefusal::OutOfMemory) => Err(OutOfMemory),
-        Err(_) => Ok(with_status(Status::NOT_FOUND)),
-    }
 }
 
 /// Records an open of an interface.

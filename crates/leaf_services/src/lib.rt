@@ -3,7 +3,8 @@
 //! `serve` is the table of `service_model`, `specs/BootServices.antt`. Each row of it is a function of
 //! `service_rows` that looks at the arguments and at the world, and answers a change or why it stops.
 //! `changes` alone changes the world, by the calls of `storing`, `interfaces` and `buffers`; `reentries`
-//! has what ConnectController and DisconnectController go on with.
+//! has what services go on with that enter the driver model again, and `reopen` is the second look of an
+//! OpenProtocol for which a driver was disconnected.
 #![tactic(auto)]
 
 mod boot_services;
@@ -13,8 +14,8 @@ mod interfaces;
 mod reentries;
 mod storing;
 
-pub use boot_services::serve;
-pub use service_model::{Caller, Reentry, Served};
+pub use boot_services::{reopen, serve};
+pub use service_model::{Caller, HandleInterface, Opening, Reentry, Removal, Served};
 
 #[cfg(test)]
 mod connect_tests;

@@ -4,8 +4,8 @@ ghost use Rattle.std.specs.Prelude.{◌≡◌, true};
 ghost use Rattle.service_model.specs.BootServices.{is_boot_service};
 
 use crate::protocol_tests::{
-    BAD, DENIED, DONE, FIRST, INVALID, LOADED, MISSING, NAME, NOWHERE, OTHER, SECOND, SMALL,
-    STARTED, TABLE, TRAPPED, UNKNOWN, install_list, prepared,
+    BAD, DENIED, DONE, FIRST, GOES_ON, INVALID, LOADED, MISSING, NAME, NOWHERE, OTHER, SECOND,
+    SMALL, STARTED, TABLE, TRAPPED, UNKNOWN, install_list, prepared,
 };
 use crate::tests::{Answer, STACK_END, call, called_at};
 use fw_world::World;
@@ -70,13 +70,14 @@ const UNINSTALLS: [Call; 8] = [
     ([4, 0, 5, 0, 0, 0], INVALID),
     ([99, BAD, 5, 0, 0, 0], TRAPPED),
     ([99, NAME, 5, 0, 0, 0], INVALID),
-    // another address before who owns the interface, and before who uses it
+    // an interface at another address is not there
     ([1, LOADED, 5, 0, 0, 0], MISSING),
     ([4, NAME, 6, 0, 0, 0], MISSING),
     // each alone
     ([4, NOWHERE, 5, 0, 0, 0], MISSING),
-    ([1, LOADED, 0x1_4000, 0, 0, 0], DENIED),
-    ([4, NAME, 5, 0, 0, 0], DENIED),
+    // neither who owns it is looked at yet, nor who uses it
+    ([1, LOADED, 0x1_4000, 0, 0, 0], GOES_ON),
+    ([4, NAME, 5, 0, 0, 0], GOES_ON),
 ];
 
 #[test]

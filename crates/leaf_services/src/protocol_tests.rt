@@ -1,10 +1,12 @@
 //! The protocol handler services, as drivers call them.
 ghost use Rattle.std.specs.Prelude.{◌≡◌};
 
-use crate::tests::{Answer, PLACE, call, called_at, world_with};
-use fw_types::{Cause, Guid, Handle, Known, Status};
+use crate::reopen;
+use crate::tests::{Answer, PLACE, answer_of, call, called_at, world_with};
+use fw_types::{Attr, Cause, Guid, Handle, Known, Status};
 use fw_world::World;
 use guest_memory::GuestMem;
+use service_model::Opening;
 use service_thunks::Service;
 use std::process::Abort;
 use std::test::Fail;
@@ -48,6 +50,8 @@ pub(crate) const SMALL: Answer = Answer::Value(Status::BUFFER_TOO_SMALL.0);
 pub(crate) const DENIED: Answer = Answer::Value(Status::ACCESS_DENIED.0);
 
 pub(crate) const STARTED: Answer = Answer::Value(Status::ALREADY_STARTED.0);
+
+pub(crate) const GOES_ON: Answer = Answer::GoesOn;
 
 pub(crate) const FULL: Answer = Answer::Value(Status::OUT_OF_RESOURCES.0);
 
@@ -100,14 +104,26 @@ pub(crate) fn fifth() -> Handle
     fourth().next()
 }
 
-/// InstallMultipleProtocolInterfaces with its arguments at `LIST`.
-pub(crate) fn install_list(world: &mut World, arguments: &[u64]) -> Result<Answer, Fail> {
+/// Puts arguments at `LIST`, 8 bytes each.
+fn put_list(world: &mut World, arguments: &[u64]) -> Result<(), Fail> {
     let mut at = LIST;
     for argument in arguments {
         world.write(at, 8, *argument)?;
         at = at.wrapping_add(8);
     }
+    Ok(())
+}
+
+/// InstallMultipleProtocolInterfaces with its arguments at `LIST`.
+pub(crate) fn install_list(world: &mut World, arguments: &[u64]) -> Result<Answer, Fail> {
+    put_list(world, arguments)?;
     called_at(world, Service::InstallMultiple, LIST)
+}
+
+/// UninstallMultipleProtocolInterfaces with its arguments at `LIST`.
+fn uninstall_list(world: &mut World, arguments: &[u64]) -> Result<Answer, Fail> {
+    put_list(world, arguments)?;
+    called_at(world, Service::UninstallMultiple, LIST)
 }
 
 /// The numbers from an address on, 8 bytes each.
@@ -158,24 +174,47 @@ fn first_interface(rt: HostRuntime) -> Result<(), Fail> {
     Ok(())
 }
 
-/// An interface stays while a driver uses it, and is removed with the records that keep nobody out.
+/// An interface that is there goes on to be uninstalled, whoever has it open. Nothing changes before.
 #[test]
-fn lasting_interfaces(rt: HostRuntime) -> Result<(), Fail> {
+fn interfaces_to_uninstall(rt: HostRuntime) -> Result<(), Fail> {
     let mut world = prepared(&rt)?;
     let _ = call(&mut world, Service::HandleProtocol, &[4, NAME, SECOND])?;
-    let gone = [4, NAME, 5];
     for attr in [0x08u64, 0x10, 0x20, 0x30] {
         let open = [4, NAME, SECOND, 3, 2, attr];
         assert_eq!(rt; call(&mut world, Service::OpenProtocol, &open)?, DONE);
-        assert_eq!(rt; call(&mut world, Service::Uninstall, &gone)?, DENIED);
+        assert_eq!(rt;
+            call(&mut world, Service::Uninstall, &[4, NAME, 5])?,
+            GOES_ON
+        );
         let close = [4, NAME, 3, 2];
         assert_eq!(rt; call(&mut world, Service::CloseProtocol, &close)?, DONE);
         assert_eq!(rt; call(&mut world, Service::CloseProtocol, &close)?, MISSING);
     }
-    assert_eq!(rt; world.entries().len(), 1);
-    assert_eq!(rt; call(&mut world, Service::Uninstall, &gone)?, DONE);
-    // the handle goes with its last interface
-    assert_eq!(rt; (world.entries().len(), world.db().is_live(4)), (0, false));
+    assert_eq!(rt; (world.entries().len(), world.db().is_live(4)), (1, true));
+    Ok(())
+}
+
+/// Pairs that are all there go on to be uninstalled. One that is not there is refused, as is a handle that
+/// is dead.
+#[test]
+fn pairs_to_uninstall(rt: HostRuntime) -> Result<(), Fail> {
+    let mut world = prepared(&rt)?;
+    assert_eq!(rt;
+        uninstall_list(&mut world, &[4, NAME, 5, NAME, 5, 0])?,
+        GOES_ON
+    );
+    assert_eq!(rt;
+        uninstall_list(&mut world, &[4, NAME, 5, NAME, 6, 0])?,
+        INVALID
+    );
+    assert_eq!(rt;
+        uninstall_list(&mut world, &[4, NAME, 5, OTHER, 5, 0])?,
+        INVALID
+    );
+    assert_eq!(rt; uninstall_list(&mut world, &[4, 0])?, GOES_ON);
+    assert_eq!(rt; uninstall_list(&mut world, &[99, 0])?, INVALID);
+    // pointers before the handle
+    assert_eq!(rt; uninstall_list(&mut world, &[99, BAD, 5, 0])?, TRAPPED);
     Ok(())
 }
 
@@ -227,8 +266,8 @@ const OPENS: [Open; 14] = [
     ([4, NAME, SECOND, 3, 2, 0x10], DONE, 5, 3),
     ([4, NAME, SECOND, 3, 1, 0x10], STARTED, 5, 3),
     ([4, NAME, SECOND, 1, 2, 0x10], DENIED, 7, 3),
-    // no driver is disconnected
-    ([4, NAME, SECOND, 1, 2, 0x20], DENIED, 7, 3),
+    // the driver is disconnected first, and nothing changes before
+    ([4, NAME, SECOND, 1, 2, 0x20], GOES_ON, 7, 3),
     // the attribute's upper half is not looked at
     ([4, NAME, SECOND, 1, 2, 0x1_0000_0002], DONE, 5, 4),
 ];
@@ -252,6 +291,41 @@ fn exclusive_for_a_dead_controller(rt: HostRuntime) -> Result<(), Fail> {
     let mut world = prepared(&rt)?;
     let open = [4, NAME, SECOND, 3, 99, 0x20];
     assert_eq!(rt; call(&mut world, Service::OpenProtocol, &open)?, DONE);
+    let record = only_record(&world, fourth(), numbered(1))?;
+    assert_eq!(rt; record, Some((3, 0, 0x20, 1)));
+    Ok(())
+}
+
+/// A second look of an open of protocol 1: its agent, its controller and its attributes, what it answers, and
+/// what is then stored in place of 7.
+type Look = (u64, u64, u32, Answer, u64);
+
+/// Second looks, one after the other.
+const LOOKS: [Look; 4] = [
+    (99, 2, 0x20, INVALID, 7),
+    (3, 99, 0x30, INVALID, 7),
+    // a controller that is dead counts as 0
+    (3, 99, 0x20, DONE, 5),
+    // that open keeps out each one after it, also of the same agent
+    (3, 2, 0x30, DENIED, 7),
+];
+
+#[test]
+fn second_looks(rt: HostRuntime) -> Result<(), Fail> {
+    let mut world = prepared(&rt)?;
+    for (agent, controller, bits, answer, stored) in LOOKS {
+        world.write(SECOND, 8, 7)?;
+        let opening = Opening {
+            handle: fourth(),
+            guid: numbered(1),
+            out: SECOND,
+            agent,
+            controller,
+            attr: Attr::legal(bits).expect(&rt, "legal attributes"),
+        };
+        assert_eq!(rt; answer_of(reopen(&mut world, &opening)?), answer);
+        assert_eq!(rt; world.read(SECOND, 8), Some(stored));
+    }
     let record = only_record(&world, fourth(), numbered(1))?;
     assert_eq!(rt; record, Some((3, 0, 0x20, 1)));
     Ok(())

@@ -25,7 +25,7 @@ pub(crate) enum Answer {
     GoesOn,
 }
 
-fn answer_of(served: Served) -> Answer {
+pub(crate) fn answer_of(served: Served) -> Answer {
     match served {
         Served::Value(value) => Answer::Value(value),
         Served::Trap(cause) => Answer::Trap(cause),

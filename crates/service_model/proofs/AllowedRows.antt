@@ -1,17 +1,19 @@
 -- What rows end with: changes that can be applied, that leave the task priority level, except for the two
--- services that set it, and that do not go on, except for ConnectController's and DisconnectController's.
-use Rattle.std.proofs.Common.{◌≡◌, ◌≤◌, ℕ, ◌*◌, Bool, true, false, ◌&&◌, not, nat_eq, nat_le, List, refl, ap, ◌∙◌, subst, rules, arith}
+-- services that set it, and that do not go on, except for those that disconnect or connect drivers.
+use Rattle.std.proofs.Common.{◌≡◌, ◌≤◌, ℕ, ◌*◌, Bool, true, false, ◌&&◌, not, nat_eq, nat_le, List, find, refl, sym, ap, ◌∙◌, subst, rules, arith}
 use Rattle.std.specs.Prelude.{Option, Some, None, is_some, Ok, if◌then◌else◌}
 use Rattle.std.proofs.lemmas.Bool.{and_from, and_parts, or_right}
 use Rattle.std.proofs.lemmas.Bool.Decides.{nat_tests}
-use Rattle.fw_types.specs.Attr.{is_legal}
-use Rattle.fw_types.specs.declared.attr.TheConstants.Attr.{BY_HANDLE_PROTOCOL, TEST_PROTOCOL}
-use Rattle.fw_types.specs.declared.status.TheConstants.Status.{ACCESS_DENIED, ALREADY_STARTED, NOT_FOUND, SUCCESS, UNSUPPORTED}
+use Rattle.fw_types.specs.Attr.{has_bit_of, is_legal}
+use Rattle.fw_types.specs.declared.attr.TheConstants.Attr.{AGENT_BITS, BY_CHILD_CONTROLLER, BY_HANDLE_PROTOCOL, CONTROLLER_BITS, HOLDING_BITS, TEST_PROTOCOL}
+use Rattle.fw_types.specs.declared.status.TheConstants.Status.{ACCESS_DENIED, ALREADY_STARTED, INVALID_PARAMETER, NOT_FOUND, SUCCESS, UNSUPPORTED}
 use Rattle.fw_types.specs.declared.event.Cause.TheVariants.{Memory}
 use Rattle.guest_memory.specs.GuestMemory.{is_readable, is_writable_range}
 use Rattle.handle_db.specs.Database.{interface_of, is_live}
-use Rattle.open_records.specs.OpenRecords.{records_of}
-use Rattle.open_records.specs.Verdicts.{judge, may_enter}
+use Rattle.std.specs.List.{list_any}
+use Rattle.open_records.specs.OpenRecords.{is_equal, is_strong, records_of}
+use Rattle.open_records.specs.declared.open_record.Rec.{Rec}
+use Rattle.open_records.specs.Verdicts.{against, judge, may_enter}
 use Rattle.open_records.specs.declared.verdict.Verdict.{Verdict}
 use Rattle.open_records.specs.declared.verdict.Verdict.TheVariants.{Add, Count, Already, Denied, MustDisconnect}
 use Rattle.service_thunks.specs.declared.service.Service.{Service}
@@ -19,30 +21,35 @@ use Rattle.service_thunks.specs.declared.service.Service.TheVariants as service
 use Rattle.world_model.specs.World.{State}
 use Rattle.world_model.specs.Interfaces.{firmware}
 use Rattle.world_model.specs.Records.{is_none_or_live}
-use Rattle.service_model.specs.Words.{dead, installed_interface, legal, null, readable, refuse_if, writable}
+use Rattle.service_model.specs.Words.{alive, dead, guid, legal, null, readable, refuse_if, writable}
 use Rattle.service_model.specs.Rows.{allocate_pool, copy_mem, raise_tpl, restore_tpl, set_mem, unbuilt}
-use Rattle.service_model.specs.Protocols.{close, live_or_zero, how_many, install, locate_handle, locate_handle_buffer, locate_protocol, change_for_found, open_protocol, open_protocol_information, open_by_interface, out_of, out_size, protocols_per_handle, change_for_verdict, open_by_records, handles_in_buffer, uninstall}
-use Rattle.service_model.specs.Many.{first_pair, install_multiple}
+use Rattle.service_model.specs.Protocols.{close, handle_protocol, live_or_zero, how_many, install, locate_handle, locate_handle_buffer, locate_protocol, change_for_found, open_protocol, open_protocol_information, open_by_interface, opening, out_of, out_size, protocols_per_handle, change_for_verdict, open_by_records, handles_in_buffer, uninstall}
+use Rattle.service_model.specs.Many.{first_pair, install_multiple, uninstall_multiple}
 use Rattle.service_model.specs.BootServices.{arg, arg32, arg8, row}
-use Rattle.service_model.specs.Allowed.{RowsAreAllowed, can_store, goes_again, is_allowed, is_of_image}
+use Rattle.service_model.specs.Allowed.{RowsAreAllowed, can_store, goes_again, is_allowed}
 use Rattle.service_model.specs.declared.numbers.TheConstants.{TPL_HIGH_LEVEL}
 use Rattle.service_model.specs.Connecting.{connect_controller, disconnect_controller}
 use Rattle.service_model.specs.Untouched.{may_go_on, sets_tpl}
 use Rattle.service_model.specs.declared.call.Caller.{Caller}
+use Rattle.service_model.specs.declared.call.Opening.{Opening}
 use Rattle.service_model.specs.declared.plan.Contents.{Contents}
 use Rattle.service_model.specs.declared.plan.Change.{Change}
-use Rattle.service_model.specs.declared.plan.Change.TheVariants.{Block, Disconnect, Free, Open, SetTpl, Store, Value}
+use Rattle.service_model.specs.declared.plan.Change.TheVariants.{Block, Disconnect, Free, Open, Remove, SetTpl, Store, Value}
 use Rattle.service_model.specs.declared.plan.Stop.TheVariants.{Status, Trap}
 use Rattle.service_model.proofs.ConnectRows.{connect-allowed}
-use Rattle.service_model.proofs.PairRows.{fits-of, lives}
-use Rattle.service_model.proofs.RowLines.{Says, is-legal, is-same, is-there, not-refused, not-stopped, says-after, says-end, says-found, says-if, says-stop}
+use Rattle.service_model.proofs.PairRows.{fits-of, lives, pairs-readable}
+use Rattle.service_model.proofs.RowLines.{Says, is-legal, is-same, not-stopped, says-after, says-end, says-found, says-if, says-stop, says-weaker}
 
 -- whether a change sets the level
 abbrev pub is_of_tpl : Change → Bool
 is_of_tpl (SetTpl tpl answer) = true
 is_of_tpl _ = false
 
--- a change that can be applied, leaves the level and does not go on
+-- a change that can be applied and leaves the level
+abbrev Applies : State → Change → Type 0
+Applies w change = (is_allowed change w ≡ true) × (is_of_tpl change ≡ false)
+
+-- and does not go on
 abbrev Fine : State → Change → Type 0
 Fine w change = (is_allowed change w ≡ true) × (is_of_tpl change ≡ false) × (goes_again change ≡ false)
 
@@ -57,11 +64,8 @@ can-read n at w is = not-stopped (is_readable w.soft.memory at n) (Trap Memory) 
 install-fine : (owner handle_at guid_at kind interface : ℕ) (w : State) → Says (Fine w) (install owner handle_at guid_at kind interface w)
 install-fine owner handle_at guid_at kind interface w = search (rules, says-after, says-found, says-end, can-write) depth 30
 
-of-image : (handle : ℕ) (name : List ℕ) (found : ℕ × ℕ) (w : State) → installed_interface handle name w ≡ Ok found → refuse_if (nat_eq found.1 firmware) ACCESS_DENIED ≡ Ok tt → is_of_image (interface_of handle name w.soft.database) ≡ true
-of-image handle name found w is other = ap is_of_image (is-there handle name found w is) ∙ ap not (not-refused (nat_eq found.1 firmware) ACCESS_DENIED other)
-
-uninstall-fine : (given guid_at interface : ℕ) (w : State) → Says (Fine w) (uninstall given guid_at interface w)
-uninstall-fine given guid_at interface w = search (rules, says-after, says-found, says-end, of-image) depth 30
+uninstall-applies : (given guid_at interface : ℕ) (w : State) → Says (Applies w) (uninstall given guid_at interface w)
+uninstall-applies given guid_at interface w = search (rules, says-after, says-found, says-end) depth 30
 
 -- ---- opening and closing
 
@@ -80,50 +84,66 @@ live_or_zero-none handle w = by_test (dead handle w) refl
     by_test true is = refl
     by_test false is = or_right (nat_eq handle 0) (is_live handle w.soft.database) (lives handle w is)
 
+-- a change that can be applied and leaves the level, and that goes on only for an open with BY_DRIVER or EXCLUSIVE
+abbrev Opens : (bits : ℕ) → State → Change → Type 0
+Opens bits w change = (is_allowed change w ≡ true) × (is_of_tpl change ≡ false) × (has_bit_of HOLDING_BITS bits ≡ false → goes_again change ≡ false)
+
 -- what an open ends with if its interface is there
-record Opens (handle : ℕ) (name : List ℕ) (out agent controller attr : ℕ) (w : State) : Type 0 where
-  there : is_some (interface_of handle name w.soft.database) ≡ true
-  can : can_store (out_of attr out) w ≡ true
+record CanOpen (o : Opening) (controller : ℕ) (w : State) : Type 0 where
+  there : is_some (interface_of o.handle o.guid w.soft.database) ≡ true
+  can : can_store (out_of o.attr o.out) w ≡ true
   for_live : is_none_or_live controller w.soft.database ≡ true
-  legal : is_legal attr ≡ true
+  legal : is_legal o.attr ≡ true
+
+-- no driver is in the way of an open that asks for neither
+no-removal : (records : List Rec) (agent controller attr holder : ℕ) → judge records agent controller attr ≡ MustDisconnect holder → has_bit_of HOLDING_BITS attr ≡ false → ⊥
+no-removal records agent controller attr holder is none = by_test (has_bit_of HOLDING_BITS attr) (list_any (is_equal agent controller attr) records) none is
+  where
+    by_test : (holds there : Bool) → holds ≡ false → (if holds then against (find is_strong records) agent attr else if there then Count else Add) ≡ MustDisconnect holder → ⊥
+    by_test true there none is = absurd cc
+    by_test false true none is = absurd cc
+    by_test false false none is = absurd cc
 
 pub six : (a b c d e f : Bool) → a ≡ true → b ≡ true → c ≡ true → d ≡ true → e ≡ true → f ≡ true → (a && (b && (c && (d && (e && f))))) ≡ true
 six a b c d e f p q r s t u = rw (p, q, r, s, t, u) refl
 
-enters : (handle : ℕ) (name : List ℕ) (out agent controller attr : ℕ) (w : State) → Opens handle name out agent controller attr w → is_live agent w.soft.database ≡ true
-    → may_enter (judge (records_of w.soft.records.entries handle name) agent controller attr) ≡ true → (interface : ℕ)
-    → Says (Fine w) (Ok (Open handle name agent controller attr (out_of attr out) interface))
-enters handle name out agent controller attr w opens by_live free interface =
-    says-end (Fine w) (Open handle name agent controller attr (out_of attr out) interface) (
-      six (can_store (out_of attr out) w) (is_some (interface_of handle name w.soft.database)) (is_live agent w.soft.database) (is_none_or_live controller w.soft.database) (is_legal attr)
-          (may_enter (judge (records_of w.soft.records.entries handle name) agent controller attr))
-          opens.can opens.there by_live opens.for_live opens.legal free,
-      refl,
-      refl,
-    )
+module _ (o : Opening) (w : State) where
+  enters : (agent controller interface : ℕ) → CanOpen o controller w → is_live agent w.soft.database ≡ true
+      → may_enter (judge (records_of w.soft.records.entries o.handle o.guid) agent controller o.attr) ≡ true
+      → Says (Opens o.attr w) (Ok (Open o.handle o.guid agent controller o.attr (out_of o.attr o.out) interface))
+  enters agent controller interface opens by_live free =
+      says-end (Opens o.attr w) (Open o.handle o.guid agent controller o.attr (out_of o.attr o.out) interface) (
+        six (can_store (out_of o.attr o.out) w) (is_some (interface_of o.handle o.guid w.soft.database)) (is_live agent w.soft.database) (is_none_or_live controller w.soft.database) (is_legal o.attr)
+            (may_enter (judge (records_of w.soft.records.entries o.handle o.guid) agent controller o.attr))
+            opens.can opens.there by_live opens.for_live opens.legal free,
+        refl,
+        (λ none. refl),
+      )
 
-verdict-fine : (verdict : Verdict) (handle : ℕ) (name : List ℕ) (out agent controller attr interface : ℕ) (w : State) → judge (records_of w.soft.records.entries handle name) agent controller attr ≡ verdict
-    → Opens handle name out agent controller attr w → is_live agent w.soft.database ≡ true → Says (Fine w) (change_for_verdict verdict handle name out agent controller attr interface)
-verdict-fine Add handle name out agent controller attr interface w is opens by_live = enters handle name out agent controller attr w opens by_live (ap may_enter is) interface
-verdict-fine Count handle name out agent controller attr interface w is opens by_live = enters handle name out agent controller attr w opens by_live (ap may_enter is) interface
-verdict-fine Already handle name out agent controller attr interface w is opens by_live = says-end (Fine w) (Store (out_of attr out) interface ALREADY_STARTED) (opens.can, refl, refl)
-verdict-fine Denied handle name out agent controller attr interface w is opens by_live = says-stop (Fine w) (Status ACCESS_DENIED)
-verdict-fine (MustDisconnect holder) handle name out agent controller attr interface w is opens by_live = says-stop (Fine w) (Status ACCESS_DENIED)
+  verdict-opens : (verdict : Verdict) (agent controller interface : ℕ) → judge (records_of w.soft.records.entries o.handle o.guid) agent controller o.attr ≡ verdict
+      → CanOpen o controller w → is_live agent w.soft.database ≡ true → Says (Opens o.attr w) (change_for_verdict verdict o agent controller interface)
+  verdict-opens Add agent controller interface is opens by_live = enters agent controller interface opens by_live (ap may_enter is)
+  verdict-opens Count agent controller interface is opens by_live = enters agent controller interface opens by_live (ap may_enter is)
+  verdict-opens Already agent controller interface is opens by_live = says-end (Opens o.attr w) (Store (out_of o.attr o.out) interface ALREADY_STARTED) (opens.can, refl, λ none. refl)
+  verdict-opens Denied agent controller interface is opens by_live = says-stop (Opens o.attr w) (Status ACCESS_DENIED)
+  verdict-opens (MustDisconnect holder) agent controller interface is opens by_live =
+      says-end (Opens o.attr w) (Remove (record { opening = o; victim = holder }))
+      (refl, refl, λ none. absurd (no-removal (records_of w.soft.records.entries o.handle o.guid) agent controller o.attr holder is none))
 
-records-fine : (handle : ℕ) (name : List ℕ) (out agent controller attr interface : ℕ) (w : State) → Opens handle name out agent controller attr w → (null agent ≡ false → is_live agent w.soft.database ≡ true)
-    → Says (Fine w) (open_by_records handle name out agent controller attr interface w)
-records-fine handle name out agent controller attr interface w opens by_live =
-    says-if (Fine w) (null agent) _ _
-    (λ none. says-end (Fine w) (Store (out_of attr out) interface SUCCESS) (opens.can, refl, refl))
-    (λ some. verdict-fine (judge (records_of w.soft.records.entries handle name) agent controller attr) handle name out agent controller attr interface w refl opens (by_live some))
+  records-open : (agent controller interface : ℕ) → CanOpen o controller w → (null agent ≡ false → is_live agent w.soft.database ≡ true)
+      → Says (Opens o.attr w) (open_by_records o agent controller interface w)
+  records-open agent controller interface opens by_live =
+      says-if (Opens o.attr w) (null agent) _ _
+      (λ none. says-end (Opens o.attr w) (Store (out_of o.attr o.out) interface SUCCESS) (opens.can, refl, λ none. refl))
+      (λ some. verdict-opens (judge (records_of w.soft.records.entries o.handle o.guid) agent controller o.attr) agent controller interface refl opens (by_live some))
 
-interface-fine : (found : Option (ℕ × ℕ)) (handle : ℕ) (name : List ℕ) (out agent controller attr : ℕ) (w : State) → interface_of handle name w.soft.database ≡ found
-    → can_store (out_of attr out) w ≡ true → is_legal attr ≡ true → Says (Fine w) (open_by_interface found handle name out agent controller attr w)
-interface-fine None handle name out agent controller attr w is can legal = says-end (Fine w) (Store (out_of attr out) 0 UNSUPPORTED) (can, refl, refl)
-interface-fine (Some found) handle name out agent controller attr w is can legal =
-    records-fine handle name out (live_or_zero agent w) (live_or_zero controller w) attr found.0 w
-    (record { there = ap is_some is; can = can; for_live = live_or_zero-none controller w; legal = legal })
-    (live_or_zero-live agent w)
+  interface-opens : (found : Option (ℕ × ℕ)) → interface_of o.handle o.guid w.soft.database ≡ found
+      → can_store (out_of o.attr o.out) w ≡ true → is_legal o.attr ≡ true → Says (Opens o.attr w) (open_by_interface found o w)
+  interface-opens None is can legal = says-end (Opens o.attr w) (Store (out_of o.attr o.out) 0 UNSUPPORTED) (can, refl, λ none. refl)
+  interface-opens (Some found) is can legal =
+      records-open (live_or_zero o.agent w) (live_or_zero o.controller w) found.0
+      (record { there = ap is_some is; can = can; for_live = live_or_zero-none o.controller w; legal = legal })
+      (live_or_zero-live o.agent w)
 
 -- the place of the interface can be written
 pub out-writable : (bits attr out : ℕ) (w : State) → legal bits ≡ Ok attr → writable (out_size bits) out w ≡ Ok tt → can_store (out_of attr out) w ≡ true
@@ -133,8 +153,34 @@ out-writable bits attr out w is can = by_test (nat_eq attr TEST_PROTOCOL) (subst
     by_test true can = refl
     by_test false can = can
 
-open-fine : (given guid_at out agent controller bits : ℕ) (w : State) → Says (Fine w) (open_protocol given guid_at out agent controller bits w)
-open-fine given guid_at out agent controller bits w = search (rules, says-after, says-found, interface-fine, out-writable, is-legal) depth 30
+opening-opens : (handle : ℕ) (name : List ℕ) (out agent controller bits attr : ℕ) (w : State) → legal bits ≡ Ok attr → writable (out_size bits) out w ≡ Ok tt
+    → Says (Opens bits w) (open_by_interface (interface_of handle name w.soft.database) (opening handle name out agent controller attr) w)
+opening-opens handle name out agent controller bits attr w lawful can =
+    let same : bits ≡ attr = is-same bits attr lawful in
+    let o : Opening = opening handle name out agent controller attr in
+    says-weaker (Opens bits w) _
+    (interface-opens o w (interface_of handle name w.soft.database) refl (out-writable bits attr out w lawful can) (is-legal bits attr lawful))
+    (λ change opens. (opens.0, opens.1, λ none. opens.2 (ap (has_bit_of HOLDING_BITS) (sym same) ∙ none)))
+
+open-opens : (given guid_at out agent controller bits : ℕ) (w : State) → Says (Opens bits w) (open_protocol given guid_at out agent controller bits w)
+open-opens given guid_at out agent controller bits w =
+    let P : Change → Type 0 = Opens bits w in
+    says-after P (refuse_if (null guid_at) INVALID_PARAMETER) _ (λ some.
+    says-found P (alive given INVALID_PARAMETER w) _ (λ handle is.
+    says-after P (refuse_if (null out && not (nat_eq bits TEST_PROTOCOL)) INVALID_PARAMETER) _ (λ place.
+    says-found P (guid guid_at w) _ (λ name read.
+    says-after P (writable (out_size bits) out w) _ (λ can.
+    says-found P (legal bits) _ (λ attr lawful.
+    says-after P (refuse_if (has_bit_of AGENT_BITS attr && dead agent w) INVALID_PARAMETER) _ (λ one.
+    says-after P (refuse_if (has_bit_of CONTROLLER_BITS attr && dead controller w) INVALID_PARAMETER) _ (λ two.
+    says-after P (refuse_if (nat_eq attr BY_CHILD_CONTROLLER && nat_eq handle controller) INVALID_PARAMETER) _ (λ other.
+    opening-opens handle name out agent controller bits attr w lawful can)))))))))
+
+open-applies : (given guid_at out agent controller bits : ℕ) (w : State) → Says (Applies w) (open_protocol given guid_at out agent controller bits w)
+open-applies given guid_at out agent controller bits w = says-weaker (Applies w) _ (open-opens given guid_at out agent controller bits w) (λ change opens. (opens.0, opens.1))
+
+handle-fine : (given guid_at out : ℕ) (w : State) → Says (Fine w) (handle_protocol given guid_at out w)
+handle-fine given guid_at out w = says-weaker (Fine w) _ (open-opens given guid_at out firmware 0 BY_HANDLE_PROTOCOL w) (λ change opens. (opens.0, opens.1, opens.2 refl))
 
 close-fine : (given guid_at agent controller : ℕ) (w : State) → Says (Fine w) (close given guid_at agent controller w)
 close-fine given guid_at agent controller w = search (rules, says-after, says-found, says-end) depth 30
@@ -175,6 +221,9 @@ locate_protocol-fine guid_at out w = search (rules, says-after, says-found, foun
 many-fine : (owner handle_at list : ℕ) (w : State) → Says (Fine w) (install_multiple owner handle_at list w)
 many-fine owner handle_at list w = search (rules, says-after, says-found, says-end, and_from, fits-of, can-write) depth 30
 
+many-applies : (given list : ℕ) (w : State) → Says (Applies w) (uninstall_multiple given list w)
+many-applies given list w = search (rules, says-after, says-found, says-end, pairs-readable) depth 30
+
 -- ---- the services on memory
 
 allocate-fine : (size out : ℕ) (w : State) → Says (Fine w) (allocate_pool size out w)
@@ -197,10 +246,10 @@ rows-fine service.RestoreTpl c a w none other = absurd cc
 rows-fine service.AllocatePool c a w none other = allocate-fine (arg a 1) (arg a 2) w
 rows-fine service.FreePool c a w none other = says-end (Fine w) (Free (arg a 0)) (refl, refl, refl)
 rows-fine service.Install c a w none other = install-fine c.image (arg a 0) (arg a 1) (arg32 a 2) (arg a 3) w
-rows-fine service.Uninstall c a w none other = uninstall-fine (arg a 0) (arg a 1) (arg a 2) w
-rows-fine service.HandleProtocol c a w none other = open-fine (arg a 0) (arg a 1) (arg a 2) firmware 0 BY_HANDLE_PROTOCOL w
+rows-fine service.Uninstall c a w none other = absurd cc
+rows-fine service.HandleProtocol c a w none other = handle-fine (arg a 0) (arg a 1) (arg a 2) w
 rows-fine service.LocateHandle c a w none other = locate-fine (arg32 a 0) (arg a 1) (arg a 3) (arg a 4) w
-rows-fine service.OpenProtocol c a w none other = open-fine (arg a 0) (arg a 1) (arg a 2) (arg a 3) (arg a 4) (arg32 a 5) w
+rows-fine service.OpenProtocol c a w none other = absurd cc
 rows-fine service.CloseProtocol c a w none other = close-fine (arg a 0) (arg a 1) (arg a 2) (arg a 3) w
 rows-fine service.OpenProtocolInformation c a w none other = information-fine (arg a 0) (arg a 1) (arg a 2) (arg a 3) w
 rows-fine service.ProtocolsPerHandle c a w none other = protocols-fine (arg a 0) (arg a 1) (arg a 2) w
@@ -212,7 +261,7 @@ rows-fine service.CopyMem c a w none other = copy-fine (arg a 0) (arg a 1) (arg 
 rows-fine service.SetMem c a w none other = set-fine (arg a 0) (arg a 1) (arg8 a 2) w
 rows-fine service.ConnectController c a w none other = absurd cc
 rows-fine service.DisconnectController c a w none other = absurd cc
-rows-fine service.UninstallMultiple c a w none other = unbuilt-fine w
+rows-fine service.UninstallMultiple c a w none other = absurd cc
 rows-fine service.MemRead c a w none other = unbuilt-fine w
 rows-fine service.MemWrite c a w none other = unbuilt-fine w
 rows-fine service.PciRead c a w none other = unbuilt-fine w
@@ -221,7 +270,7 @@ rows-fine service.GetLocation c a w none other = unbuilt-fine w
 rows-fine service.Attributes c a w none other = unbuilt-fine w
 rows-fine service.Unbuilt c a w none other = unbuilt-fine w
 
--- the two that may go on leave the level too
+-- those that may go on leave the level too
 connect-leaves : (controller list path recursive : ℕ) (w : State) → Says (λ change. is_of_tpl change ≡ false) (connect_controller controller list path recursive w)
 connect-leaves controller list path recursive w = search (rules, says-after, says-found, says-end) depth 30
 
@@ -234,6 +283,9 @@ disconnect-allowed controller driver child w = says-end (λ change. is_allowed c
 pub rows-leave : (s : Service) (c : Caller) (a : List ℕ) (w : State) → sets_tpl s ≡ false → Says (λ change. is_of_tpl change ≡ false) ((row s).rest c a w)
 rows-leave service.ConnectController c a w none change result = connect-leaves (arg a 0) (arg a 1) (arg a 2) (arg8 a 3) w change result
 rows-leave service.DisconnectController c a w none change result = disconnect-leaves (arg a 0) (arg a 1) (arg a 2) w change result
+rows-leave service.OpenProtocol c a w none change result = (open-applies (arg a 0) (arg a 1) (arg a 2) (arg a 3) (arg a 4) (arg32 a 5) w change result).1
+rows-leave service.Uninstall c a w none change result = (uninstall-applies (arg a 0) (arg a 1) (arg a 2) w change result).1
+rows-leave service.UninstallMultiple c a w none change result = (many-applies (arg a 0) (first_pair c.sp) w change result).1
 rows-leave s c a w none change result = (rows-fine s c a w none refl change result).1
 
 -- the two that set the level answer a level
@@ -265,6 +317,9 @@ rows-allowed service.RaiseTpl c a w change result = (raise-fine (arg a 0) w chan
 rows-allowed service.RestoreTpl c a w change result = (restore-fine (arg a 0) w change result).0
 rows-allowed service.ConnectController c a w change result = connect-allowed (arg a 0) (arg a 1) (arg a 2) (arg8 a 3) w change result
 rows-allowed service.DisconnectController c a w change result = disconnect-allowed (arg a 0) (arg a 1) (arg a 2) w change result
+rows-allowed service.OpenProtocol c a w change result = (open-applies (arg a 0) (arg a 1) (arg a 2) (arg a 3) (arg a 4) (arg32 a 5) w change result).0
+rows-allowed service.Uninstall c a w change result = (uninstall-applies (arg a 0) (arg a 1) (arg a 2) w change result).0
+rows-allowed service.UninstallMultiple c a w change result = (many-applies (arg a 0) (first_pair c.sp) w change result).0
 rows-allowed s c a w change result = (rows-fine s c a w refl refl change result).0
 
 level-of : (change : Change) → is_of_tpl change ≡ false → IsLevel change

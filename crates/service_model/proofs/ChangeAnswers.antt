@@ -1,11 +1,11 @@
 -- What changes answer, and what services answer by them: why they trap, what an error leaves, and whether
 -- they go on.
-use Rattle.std.proofs.Common.{◌≡◌, ◌≤◌, ℕ, zero, suc, ◌^◌, Bool, true, false, not, ◌&&◌, nat_lt, List, length, replicate, refl, ap, ◌∙◌, subst, arith, rules}
+use Rattle.std.proofs.Common.{◌≡◌, ◌≤◌, ℕ, zero, suc, ◌^◌, Bool, true, false, not, ◌&&◌, nat_lt, List, length, replicate, refl, ap, ◌∙◌, arith}
 use Rattle.std.specs.Prelude.{Option, None, Result, Ok, Err, if◌then◌else◌}
 use Rattle.std.proofs.lemmas.Bool.Decides.{nat_tests}
 use Rattle.fw_types.specs.Status.{is_error}
 use Rattle.fw_types.specs.declared.status.Status.{Status as StatusValue}
-use Rattle.fw_types.specs.declared.status.TheConstants.Status.{INVALID_PARAMETER, NOT_FOUND, OUT_OF_RESOURCES, SUCCESS}
+use Rattle.fw_types.specs.declared.status.TheConstants.Status.{INVALID_PARAMETER, OUT_OF_RESOURCES, SUCCESS}
 use Rattle.fw_types.specs.declared.event.Cause.{Cause}
 use Rattle.fw_types.specs.declared.event.Cause.TheVariants.{Budget, Memory}
 use Rattle.guest_memory.specs.declared.segment.SegKind.TheVariants.{Pool}
@@ -15,23 +15,25 @@ use Rattle.open_records.specs.Adding.{is_full}
 use Rattle.service_thunks.specs.declared.service.Service.{Service}
 use Rattle.world_model.specs.World.{State}
 use Rattle.world_model.specs.Blocks.{is_block_full, is_image_block}
-use Rattle.world_model.specs.Interfaces.{install_answer, uninstall_answer}
+use Rattle.world_model.specs.Interfaces.{install_answer}
 use Rattle.world_model.specs.declared.fault.WorldFault.TheVariants as fault
 use Rattle.service_model.specs.Contents.{contents_bytes, contents_count}
 use Rattle.service_model.specs.BootServices.{end_of_row, row}
-use Rattle.service_model.specs.Changes.{allot_served, applied, block_made, block_served, free_served, install_served, many_served, open_served, pair_added, pair_at, pair_installed, pairs_installed, status_answered, stored_if, uninstall_served}
+use Rattle.service_model.specs.Changes.{allot_served, applied, block_made, block_served, free_served, install_served, many_served, open_served, pair_added, pair_installed, pairs_installed, status_answered, stored_if}
+use Rattle.service_model.specs.Many.{pair_at}
 use Rattle.service_model.specs.Allowed.{ReentriesChangeNothing, goes_again}
 use Rattle.service_model.specs.Untouched.{ErrorsChangeNothing, OthersEnd, ShortOfUnitsTraps, StoresAtMostOne, TrapsChangeNothing, TrapsForItsCause, UnreadablePriceTraps, cause_by, goes_on}
 use Rattle.service_model.specs.declared.call.Caller.{Caller}
+use Rattle.service_model.specs.declared.call.Reentry.{Reentry}
 use Rattle.service_model.specs.declared.call.Served.{Served}
 use Rattle.service_model.specs.declared.call.Served.TheVariants as served
 use Rattle.service_model.specs.declared.plan.Change.{Change}
-use Rattle.service_model.specs.declared.plan.Change.TheVariants.{Allot, Block, Close, Connect, Copy, Disconnect, Fill, Free, Handles, Install, InstallMany, Open, SetTpl, Store, Uninstall, Value}
+use Rattle.service_model.specs.declared.plan.Change.TheVariants.{Allot, Block, Close, Connect, Copy, Disconnect, Fill, Free, Handles, Install, InstallMany, Open, Remove, SetTpl, Store, Uninstall, UninstallMany, Value}
 use Rattle.service_model.specs.declared.plan.Stop.{Stop}
 use Rattle.service_model.specs.declared.plan.Stop.TheVariants as stop
-use Rattle.service_model.proofs.RowLines.{Says, TrapsByMemory, traps-end, traps-found, traps-if, traps-memory, traps-status, traps-unread}
+use Rattle.service_model.proofs.RowLines.{Says, TrapsByMemory, traps-end, traps-found, traps-status}
 use Rattle.service_model.proofs.AllowedRows.{IsLevel, rows-end, rows-level}
-use Rattle.service_model.proofs.RowTraps.{rows-trap}
+use Rattle.service_model.proofs.RowTraps.{pair_at-traps, rows-trap}
 use Rattle.service_model.proofs.ServiceCases.{paid, served-by, served-cases}
 
 -- ---- changes
@@ -68,6 +70,13 @@ as-before status w = record {
   goes = refl;
 }
 
+goes-on : (w : State) (reentry : Reentry) → Answers true w (served.Again reentry, w)
+goes-on w reentry = record {
+  traps = λ cause is. absurd cc;
+  errors = λ value is error. absurd cc;
+  goes = refl;
+}
+
 allot-answers : (out : ℕ) (bytes : List ℕ) (w : State) (full : Bool) → Answers false w (allot_served out (block_made (if full then Err fault.Full else Ok w.soft.next_block) bytes w))
 allot-answers out bytes w true = as-before OUT_OF_RESOURCES w
 allot-answers out bytes w false = succeeds w _
@@ -85,9 +94,6 @@ added-traps : (answer : Result ℕ DbRefusal) (handle : Option ℕ) (pair : List
 added-traps (Ok new) handle pair owner w = traps-end _
 added-traps (Err refusal) handle pair owner w = traps-status OUT_OF_RESOURCES
 
-pair_at-traps : (list i : ℕ) (w : State) → TrapsByMemory (pair_at list i w)
-pair_at-traps list i w = search (rules, traps-found, traps-if, traps-end, traps-memory, traps-unread) depth 20
-
 pair-traps : (i list owner : ℕ) (end : Option ℕ × State) → TrapsByMemory (pair_installed i list owner end)
 pair-traps i list owner (handle, mid) = traps-found (pair_at list i mid) _ (pair_at-traps list i mid) (λ pair. added-traps (install_answer handle pair.0 mid.soft) handle pair owner mid)
 
@@ -104,10 +110,6 @@ many-answers handle out w (Err (stop.Trap cause)) by = record {
   errors = λ value is error. absurd cc;
   goes = refl;
 }
-
-uninstall-answers : (answer : Result Unit DbRefusal) (handle : ℕ) (name : List ℕ) (w : State) → Answers false w (uninstall_served answer handle name w)
-uninstall-answers (Ok done) handle name w = succeeds w _
-uninstall-answers (Err refusal) handle name w = as-before NOT_FOUND w
 
 open-answers : (full : Bool) (handle : ℕ) (name : List ℕ) (agent controller attr : ℕ) (out : Option ℕ) (address : ℕ) (w : State) → Answers false w (open_served full handle name agent controller attr out address w)
 open-answers true handle name agent controller attr out address w = as-before OUT_OF_RESOURCES w
@@ -141,28 +143,25 @@ change-answers (Store out value status) w level = record {
 change-answers (Install handle name address owner out) w level = install-answers (install_answer handle name w.soft) handle name address owner out w
 change-answers (InstallMany handle list count owner out) w level =
     many-answers handle out w (pairs_installed count list owner handle w) (pairs-trap count list owner handle w)
-change-answers (Uninstall handle name) w level = uninstall-answers (uninstall_answer handle name w.soft) handle name w
 change-answers (Open handle name agent controller attr out address) w level =
     open-answers (is_full handle name agent controller attr w.soft.records) handle name agent controller attr out address w
 change-answers (Close handle name agent controller) w level = succeeds w _
 change-answers (Handles name size buffer) w level = succeeds w _
 change-answers (Block contents buffer count count_first) w level =
     block-answers count_first buffer count (contents_count contents w) (contents_bytes contents w) w (is_block_full (length (contents_bytes contents w)) w.soft)
-change-answers (Connect controller list count path at_end recursive) w level = record {
-  traps = λ cause is. absurd cc;
-  errors = λ value is error. absurd cc;
-  goes = refl;
-}
-change-answers (Disconnect controller driver child) w level = record {
-  traps = λ cause is. absurd cc;
-  errors = λ value is error. absurd cc;
-  goes = refl;
-}
+change-answers (Connect controller list count path at_end recursive) w level = goes-on w _
+change-answers (Disconnect controller driver child) w level = goes-on w _
+change-answers (Remove removal) w level = goes-on w _
+change-answers (Uninstall i) w level = goes-on w _
+change-answers (UninstallMany handle list count) w level = goes-on w _
 
 -- what goes on leaves the state
 pub reentries-go : ReentriesChangeNothing
 reentries-go (Connect controller list count path at_end recursive) w is = (refl, refl)
 reentries-go (Disconnect controller driver child) w is = (refl, refl)
+reentries-go (Remove removal) w is = (refl, refl)
+reentries-go (Uninstall i) w is = (refl, refl)
+reentries-go (UninstallMany handle list count) w is = (refl, refl)
 reentries-go change w is = absurd cc
 
 -- ---- rows

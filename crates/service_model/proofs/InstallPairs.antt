@@ -18,10 +18,10 @@ use Rattle.world_model.specs.World.{State, on_soft, with_memory}
 use Rattle.world_model.specs.Interfaces.{install_answer as install_answer_of, interface, interface_added}
 use Rattle.world_model.specs.Kept.{is_address}
 use Rattle.world_model.proofs.Databases.{has-installed}
-use Rattle.service_model.specs.Words.{◌>>=◌, ◌>>◌, each, has_protocol, refuse_if}
-use Rattle.service_model.specs.Many.{all_fit, first_pair, install_multiple, is_named, is_seen, no_room, pair_fits, pair_interface, pair_name}
+use Rattle.service_model.specs.Words.{◌>>=◌, has_protocol, refuse_if}
+use Rattle.service_model.specs.Many.{all_fit, first_pair, install_multiple, is_named, is_seen, no_room, pair_at, pair_fits, pair_interface, pair_name}
 use Rattle.service_model.specs.BootServices.{arg}
-use Rattle.service_model.specs.Changes.{pair_added, pair_at, pair_installed, pairs_installed}
+use Rattle.service_model.specs.Changes.{pair_added, pair_installed, pairs_installed}
 use Rattle.service_model.specs.Allowed.{PairsAreInstalled, RowInstallsPairs, all_there, can_install, is_interface, is_there, live_if}
 use Rattle.service_model.specs.declared.numbers.TheConstants.{MOST_PAIRS}
 use Rattle.service_model.specs.declared.plan.Change.{Change}
@@ -29,23 +29,7 @@ use Rattle.service_model.specs.declared.plan.Change.TheVariants.{InstallMany}
 use Rattle.service_model.specs.declared.plan.Stop.{Stop}
 use Rattle.service_model.proofs.HasInterface.{had}
 use Rattle.service_model.proofs.PairRows.{all-of, fits-of}
-use Rattle.service_model.proofs.RowLines.{Says, not-refused, says-after, says-end, says-found}
-
--- ---- numbers from one on
-
-each-at : (line : ℕ → Result Unit Stop) (from n : ℕ) → each line (range_with_len from n) ≡ Ok tt → (i : ℕ) → from ≤ i → i < from + n → line i ≡ Ok tt
-each-at line from zero is i low high = absurd (omega arith)
-each-at line from (suc n) is i low high = by_line (line from) refl is (λ rest above. each-at line (from + 1) n rest i above (omega arith))
-  where
-    by_line : (first : Result Unit Stop) → line from ≡ first → ◌≡◌ {A = Result Unit Stop} (first >> each line (range_with_len (from + 1) n)) (Ok tt)
-        → (each line (range_with_len (from + 1) n) ≡ Ok tt → from + 1 ≤ i → line i ≡ Ok tt) → line i ≡ Ok tt
-    by_line (Err stop) here is later = absurd cc
-    by_line (Ok done) here is later = elim (cases_lt from i) [
-      | inl above ↦ later is (omega arith)
-      | inr first ↦
-          let same : i ≡ from = omega arith in
-          rw same here
-    ]
+use Rattle.service_model.proofs.RowLines.{Says, each-at, not-refused, says-after, says-end, says-found}
 
 or-none : (b : Bool) → (b || false) ≡ b
 or-none true = refl

@@ -1,17 +1,19 @@
--- The row of InstallMultipleProtocolInterfaces ends with pairs that can be installed.
+-- The rows of InstallMultipleProtocolInterfaces and UninstallMultipleProtocolInterfaces end with pairs that can be
+-- installed, and with pairs that can be read.
 use Rattle.std.proofs.Common.{◌≡◌, ◌<◌, ◌≤◌, inl, inr, ℕ, zero, suc, ◌+◌, Bool, true, false, not, nat_le, refl, ap, arith}
-use Rattle.std.specs.Prelude.{Option, Some, None, is_ok, Ok, Err, if◌then◌else◌}
+use Rattle.std.specs.Prelude.{List, Option, Some, None, is_ok, Result, Ok, Err, if◌then◌else◌}
 use Rattle.std.specs.List.{list_all, range_with_len}
 use Rattle.std.proofs.lemmas.Bool.{and_from, cases_lt, le-leb, not-false, or_parts}
 use Rattle.fw_types.specs.declared.status.TheConstants.Status.{INVALID_PARAMETER}
-use Rattle.handle_db.specs.Database.{is_live}
+use Rattle.handle_db.specs.Database.{interface_of, is_live}
 use Rattle.world_model.specs.World.{State}
-use Rattle.service_model.specs.Words.{dead, handle_or_none, null, number}
-use Rattle.service_model.specs.Many.{all_fit, handle_for, interface_place, pair_interface, pair_place, pairs_before}
-use Rattle.service_model.specs.Allowed.{can_install, live_if}
+use Rattle.service_model.specs.Words.{◌>>=◌, dead, each, handle_or_none, null, number, refuse_if}
+use Rattle.service_model.specs.Many.{all_fit, handle_for, interface_place, is_at, pair_at, pair_installed_on, pair_interface, pair_place, pairs_before}
+use Rattle.service_model.specs.Allowed.{can_install, can_read_pairs, live_if}
 use Rattle.service_model.specs.declared.numbers.TheConstants.{MOST_PAIRS}
+use Rattle.service_model.specs.declared.plan.Stop.{Stop}
 use Rattle.service_model.specs.declared.plan.Stop.TheVariants.{Status}
-use Rattle.service_model.proofs.RowLines.{Says, says-end, says-found, says-if, says-stop, says-weaker}
+use Rattle.service_model.proofs.RowLines.{Says, each-at, says-end, says-found, says-if, says-stop, says-weaker}
 
 -- what is shown of each number is so of all
 pub all-of : (test : ℕ → Bool) (from n : ℕ) → ((i : ℕ) → from ≤ i → i < from + n → test i ≡ true) → list_all test (range_with_len from n) ≡ true
@@ -82,3 +84,20 @@ fits-of handle list given pairs w counts name_is fit =
     let read : list_all (λ i. is_ok (pair_interface list i w)) (range_with_len 0 pairs.0) ≡ true =
     all-of (λ i. is_ok (pair_interface list i w)) 0 pairs.0 (λ i low high. pairs-read MOST_PAIRS 0 list w pairs counts i low (omega arith)) in
     rw (few, live, fit, read) refl
+
+-- ---- uninstalling
+
+-- a pair that is there was read
+pair-read : (pair : Result (List ℕ × ℕ) Stop) (handle : ℕ) (w : State)
+    → (pair >>= λ pair. refuse_if (not (is_at (interface_of handle pair.0 w.soft.database) pair.1)) INVALID_PARAMETER) ≡ Ok tt → is_ok pair ≡ true
+pair-read (Ok pair) handle w there = refl
+pair-read (Err stop) handle w there = absurd cc
+
+pub pairs-readable : (handle list : ℕ) (pairs : ℕ × Bool) (w : State) → pairs_before MOST_PAIRS 0 list w ≡ Ok pairs
+    → each (pair_installed_on handle list w) (range_with_len 0 pairs.0) ≡ Ok tt → can_read_pairs list pairs.0 w ≡ true
+pairs-readable handle list pairs w counts there =
+    let most : pairs.0 ≤ 0 + MOST_PAIRS = pairs-few MOST_PAIRS 0 list w pairs counts in
+    let few : nat_le pairs.0 MOST_PAIRS ≡ true = le-leb pairs.0 MOST_PAIRS (omega arith) in
+    let read : list_all (λ i. is_ok (pair_at list i w)) (range_with_len 0 pairs.0) ≡ true =
+    all-of (λ i. is_ok (pair_at list i w)) 0 pairs.0 (λ i low high. pair-read (pair_at list i w) handle w (each-at (pair_installed_on handle list w) 0 pairs.0 there i low high)) in
+    rw (few, read) refl

@@ -1,5 +1,7 @@
 -- A row, line by line: what it ends with, what is known after a line that did not stop, and why lines trap.
-use Rattle.std.proofs.Common.{◌≡◌, ℕ, Bool, true, false, refl, subst}
+use Rattle.std.proofs.Common.{◌≡◌, ◌<◌, ◌≤◌, inl, inr, ℕ, zero, suc, ◌+◌, Bool, true, false, refl, subst, arith}
+use Rattle.std.specs.List.{range_with_len}
+use Rattle.std.proofs.lemmas.Bool.{cases_lt}
 use Rattle.std.specs.Prelude.{List, [], ◌∷◌, Option, Some, None, ok_or, Result, Ok, Err, if◌then◌else◌}
 use Rattle.fw_types.specs.Attr.{is_legal}
 use Rattle.fw_types.specs.declared.status.Status.{Status as StatusValue}
@@ -72,6 +74,21 @@ is-there handle name found w is = by_found (interface_of handle name w.soft.data
     by_found : (item : Option (ℕ × ℕ)) → ok_or item (Status NOT_FOUND) ≡ Ok found → item ≡ Some found
     by_found None is = absurd cc
     by_found (Some one) is = cc
+
+-- a line for each number of a range goes on, so each of them does
+pub each-at : (line : ℕ → Result Unit Stop) (from n : ℕ) → each line (range_with_len from n) ≡ Ok tt → (i : ℕ) → from ≤ i → i < from + n → line i ≡ Ok tt
+each-at line from zero is i low high = absurd (omega arith)
+each-at line from (suc n) is i low high = by_line (line from) refl is (λ rest above. each-at line (from + 1) n rest i above (omega arith))
+  where
+    by_line : (first : Result Unit Stop) → line from ≡ first → ◌≡◌ {A = Result Unit Stop} (first >> each line (range_with_len (from + 1) n)) (Ok tt)
+        → (each line (range_with_len (from + 1) n) ≡ Ok tt → from + 1 ≤ i → line i ≡ Ok tt) → line i ≡ Ok tt
+    by_line (Err stop) here is later = absurd cc
+    by_line (Ok done) here is later = elim (cases_lt from i) [
+      | inl above ↦ later is (omega arith)
+      | inr first ↦
+          let same : i ≡ from = omega arith in
+          rw same here
+    ]
 
 -- ---- why lines trap
 

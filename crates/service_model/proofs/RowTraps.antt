@@ -12,12 +12,13 @@ use Rattle.world_model.specs.Interfaces.{firmware}
 use Rattle.service_model.specs.Words.{null, number}
 use Rattle.service_model.specs.Rows.{allocate_pool, copy_mem, raise_tpl, restore_tpl, set_mem, unbuilt}
 use Rattle.service_model.specs.Protocols.{change_for_found, change_for_verdict, close, handles_in_buffer, install, locate_handle, locate_handle_buffer, locate_protocol, open_by_interface, open_by_records, open_protocol, open_protocol_information, out_of, protocols_per_handle, uninstall}
-use Rattle.service_model.specs.Many.{first_pair, handle_for, install_multiple, interface_place, name_readable, pair_fits, pair_place, pairs_before}
+use Rattle.service_model.specs.Many.{first_pair, handle_for, install_multiple, interface_place, name_readable, pair_at, pair_fits, pair_installed_on, pair_place, pairs_before, uninstall_multiple}
 use Rattle.service_model.specs.Connecting.{connect_controller, context_length, first_without, length_by, path_readable}
 use Rattle.service_model.specs.declared.numbers.TheConstants.{CONTEXT_SLOTS}
 use Rattle.service_model.specs.BootServices.{arg, arg32, arg8, row}
 use Rattle.service_model.specs.declared.call.Caller.{Caller}
-use Rattle.service_model.specs.declared.plan.Change.TheVariants.{Disconnect, Free, Open, Store, Value}
+use Rattle.service_model.specs.declared.call.Opening.{Opening}
+use Rattle.service_model.specs.declared.plan.Change.TheVariants.{Disconnect, Free, Open, Remove, Store, Value}
 use Rattle.service_model.proofs.RowLines.{TrapsByMemory, traps-after, traps-each, traps-end, traps-found, traps-if, traps-memory, traps-missing, traps-status, traps-unread}
 
 -- ---- installing and uninstalling
@@ -30,20 +31,20 @@ uninstall-traps given guid_at interface w = search (rules, traps-after, traps-fo
 
 -- ---- opening and closing
 
-verdict-traps : (verdict : Verdict) (handle : ℕ) (name : List ℕ) (out agent controller attr interface : ℕ) → TrapsByMemory (change_for_verdict verdict handle name out agent controller attr interface)
-verdict-traps Add handle name out agent controller attr interface = traps-end (Open handle name agent controller attr (out_of attr out) interface)
-verdict-traps Count handle name out agent controller attr interface = traps-end (Open handle name agent controller attr (out_of attr out) interface)
-verdict-traps Already handle name out agent controller attr interface = traps-end (Store (out_of attr out) interface ALREADY_STARTED)
-verdict-traps Denied handle name out agent controller attr interface = traps-status ACCESS_DENIED
-verdict-traps (MustDisconnect holder) handle name out agent controller attr interface = traps-status ACCESS_DENIED
+verdict-traps : (verdict : Verdict) (o : Opening) (agent controller interface : ℕ) → TrapsByMemory (change_for_verdict verdict o agent controller interface)
+verdict-traps Add o agent controller interface = traps-end (Open o.handle o.guid agent controller o.attr (out_of o.attr o.out) interface)
+verdict-traps Count o agent controller interface = traps-end (Open o.handle o.guid agent controller o.attr (out_of o.attr o.out) interface)
+verdict-traps Already o agent controller interface = traps-end (Store (out_of o.attr o.out) interface ALREADY_STARTED)
+verdict-traps Denied o agent controller interface = traps-status ACCESS_DENIED
+verdict-traps (MustDisconnect holder) o agent controller interface = traps-end (Remove (record { opening = o; victim = holder }))
 
-records-trap : (handle : ℕ) (name : List ℕ) (out agent controller attr interface : ℕ) (w : State) → TrapsByMemory (open_by_records handle name out agent controller attr interface w)
-records-trap handle name out agent controller attr interface w =
-    traps-if (null agent) _ _ (traps-end (Store (out_of attr out) interface SUCCESS)) (verdict-traps _ handle name out agent controller attr interface)
+records-trap : (o : Opening) (agent controller interface : ℕ) (w : State) → TrapsByMemory (open_by_records o agent controller interface w)
+records-trap o agent controller interface w =
+    traps-if (null agent) _ _ (traps-end (Store (out_of o.attr o.out) interface SUCCESS)) (verdict-traps _ o agent controller interface)
 
-interface-traps : (found : Option (ℕ × ℕ)) (handle : ℕ) (name : List ℕ) (out agent controller attr : ℕ) (w : State) → TrapsByMemory (open_by_interface found handle name out agent controller attr w)
-interface-traps None handle name out agent controller attr w = traps-end (Store (out_of attr out) 0 UNSUPPORTED)
-interface-traps (Some found) handle name out agent controller attr w = records-trap handle name out _ _ attr found.0 w
+interface-traps : (found : Option (ℕ × ℕ)) (o : Opening) (w : State) → TrapsByMemory (open_by_interface found o w)
+interface-traps None o w = traps-end (Store (out_of o.attr o.out) 0 UNSUPPORTED)
+interface-traps (Some found) o w = records-trap o _ _ found.0 w
 
 open-traps : (given guid_at out agent controller bits : ℕ) (w : State) → TrapsByMemory (open_protocol given guid_at out agent controller bits w)
 open-traps given guid_at out agent controller bits w = search (rules, traps-after, traps-found, traps-if, traps-end, traps-status, traps-memory, interface-traps) depth 40
@@ -96,6 +97,16 @@ name-traps list w i = search (rules, traps-found, traps-if, traps-end, traps-mem
 
 fits-trap : (handle : Option ℕ) (list : ℕ) (w : State) (i : ℕ) → TrapsByMemory (pair_fits handle list w i)
 fits-trap handle list w i = search (rules, traps-after, traps-found, traps-if, traps-end, traps-status, traps-memory, traps-unread) depth 30
+
+pub pair_at-traps : (list i : ℕ) (w : State) → TrapsByMemory (pair_at list i w)
+pair_at-traps list i w = search (rules, traps-found, traps-if, traps-end, traps-memory, traps-unread) depth 20
+
+installed-traps : (handle list : ℕ) (w : State) (i : ℕ) → TrapsByMemory (pair_installed_on handle list w i)
+installed-traps handle list w i = search (rules, traps-found, traps-if, traps-end, traps-status, pair_at-traps) depth 20
+
+many_uninstall-traps : (given list : ℕ) (w : State) → TrapsByMemory (uninstall_multiple given list w)
+many_uninstall-traps given list w =
+    search (rules, traps-after, traps-found, traps-if, traps-end, traps-status, pairs-trap, traps-each, name-traps, installed-traps) depth 40
 
 many-traps : (owner handle_at list : ℕ) (w : State) → TrapsByMemory (install_multiple owner handle_at list w)
 many-traps owner handle_at list w =
@@ -159,7 +170,7 @@ rows-trap service.CopyMem c a w = copy-traps (arg a 0) (arg a 1) (arg a 2) w
 rows-trap service.SetMem c a w = set-traps (arg a 0) (arg a 1) (arg8 a 2) w
 rows-trap service.ConnectController c a w = connect-traps (arg a 0) (arg a 1) (arg a 2) (arg8 a 3) w
 rows-trap service.DisconnectController c a w = traps-end (Disconnect (arg a 0) (arg a 1) (arg a 2))
-rows-trap service.UninstallMultiple c a w = unbuilt-traps w
+rows-trap service.UninstallMultiple c a w = many_uninstall-traps (arg a 0) (first_pair c.sp) w
 rows-trap service.MemRead c a w = unbuilt-traps w
 rows-trap service.MemWrite c a w = unbuilt-traps w
 rows-trap service.PciRead c a w = unbuilt-traps w

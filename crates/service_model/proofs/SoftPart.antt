@@ -23,26 +23,27 @@ use Rattle.open_records.specs.Adding.{is_full as is_table_full}
 use Rattle.open_records.specs.OpenRecords.{records_of}
 use Rattle.open_records.specs.Verdicts.{judge, may_enter}
 use Rattle.world_model.specs.World.{Soft, State, on_soft, with_memory, with_tpl}
-use Rattle.world_model.specs.Interfaces.{install_answer, interface, interface_added, interface_removed, is_lasting, uninstall_answer}
+use Rattle.world_model.specs.Interfaces.{install_answer, interface, interface_added}
 use Rattle.world_model.specs.Records.{is_none_or_live, record_entered, records_left}
 use Rattle.world_model.specs.Blocks.{block_added, block_freed, block_segment, free_answer, is_block_full, is_image_block}
 use Rattle.world_model.specs.Fixed.{MappingKeepsFixed, PuttingKeepsFixed, fixed_segments}
-use Rattle.world_model.specs.Keeping.{AllottingKeeps, BlockFits, EnteringKeeps, FreeingKeeps, InstallingKeeps, LeavingKeeps, PuttingKeeps, TplKeeps, UninstallingKeeps}
+use Rattle.world_model.specs.Keeping.{AllottingKeeps, BlockFits, EnteringKeeps, FreeingKeeps, InstallingKeeps, LeavingKeeps, PuttingKeeps, TplKeeps}
 use Rattle.world_model.specs.Kept.{IsKept}
 use Rattle.world_model.specs.Marks.{stacks}
 use Rattle.world_model.specs.StackLaws.{AllottingKeepsStacks, FreeingKeepsStacks, PuttingKeepsStacks}
 use Rattle.world_model.specs.declared.fault.WorldFault.{WorldFault}
 use Rattle.world_model.specs.declared.fault.WorldFault.TheVariants as fault
-use Rattle.service_model.specs.Changes.{allot_served, applied, block_made, block_served, both_stored, bytes_stored, free_served, install_served, many_served, new_handle_stored, number_stored, open_served, pair_added, pair_at, pair_installed, pairs_installed, stored_if, uninstall_served}
+use Rattle.service_model.specs.Changes.{allot_served, applied, block_made, block_served, both_stored, bytes_stored, free_served, install_served, many_served, new_handle_stored, number_stored, open_served, pair_added, pair_installed, pairs_installed, stored_if}
+use Rattle.service_model.specs.Many.{pair_at}
 use Rattle.service_model.specs.Words.{◌>>=◌}
 use Rattle.service_model.specs.Contents.{contents_bytes, contents_count, number_bytes}
 use Rattle.service_model.specs.BootServices.{end_of_row, row}
-use Rattle.service_model.specs.Allowed.{BlocksLeaveWritable, ImagesDoNotLast, PuttingLeavesWritable, RowsAreAllowed, can_enter, can_install, can_store, is_allowed}
+use Rattle.service_model.specs.Allowed.{BlocksLeaveWritable, PuttingLeavesWritable, RowsAreAllowed, can_enter, can_install, can_store, is_allowed}
 use Rattle.service_model.specs.Untouched.{FixedStay, KeptStays, StacksStay, left_by}
 use Rattle.service_model.specs.declared.call.Caller.{Caller}
 use Rattle.service_model.specs.declared.call.Served.{Served}
 use Rattle.service_model.specs.declared.plan.Change.{Change}
-use Rattle.service_model.specs.declared.plan.Change.TheVariants.{Value, SetTpl, Allot, Free, Copy, Fill, Store, Install, InstallMany, Uninstall, Open, Close, Handles, Block, Connect, Disconnect}
+use Rattle.service_model.specs.declared.plan.Change.TheVariants.{Value, SetTpl, Allot, Free, Copy, Fill, Store, Install, InstallMany, Open, Close, Handles, Block, Connect, Disconnect, Remove, Uninstall, UninstallMany}
 use Rattle.service_model.specs.declared.plan.Stop.{Stop}
 use Rattle.service_model.specs.declared.plan.Stop.TheVariants as stop
 use Rattle.service_model.proofs.RowLines.{Says}
@@ -113,7 +114,6 @@ pub record IsKeptBy (R : Soft → Soft → Type 0) : Type 0 where
   pub allot : (soft : Soft) (bytes : List ℕ) → IsKept soft → is_block_full (length bytes) soft ≡ false → R soft (block_added bytes Pool soft)
   pub free : (soft : Soft) (at : ℕ) → IsKept soft → free_answer at Pool soft ≡ Ok tt → R soft (block_freed at soft)
   pub install : (soft : Soft) (handle : Option ℕ) (new : Interface) → IsKept soft → is_ok (install_answer handle new.guid soft) ≡ true → R soft (interface_added handle new soft)
-  pub uninstall : (soft : Soft) (handle : ℕ) (name : List ℕ) → IsKept soft → is_lasting handle name soft ≡ false → R soft (interface_removed handle name soft)
   pub enter : (soft : Soft) (handle : ℕ) (name : List ℕ) (agent controller attr : ℕ) → IsKept soft → CanEnter handle name agent controller attr soft → R soft (record_entered handle name agent controller attr soft)
   pub leave : (soft : Soft) (handle : ℕ) (name : List ℕ) (agent controller : ℕ) → IsKept soft → R soft (records_left handle name agent controller soft)
 
@@ -243,11 +243,6 @@ many-goes R by handle out w (Ok (Some new, mid)) kept can went =
 many-goes R by handle out w (Err (stop.Status status)) kept can went = by.same w.soft kept
 many-goes R by handle out w (Err (stop.Trap cause)) kept can went = by.same w.soft kept
 
-uninstall-goes : (R : Soft → Soft → Type 0) → IsKeptBy R → (answer : Result Unit DbRefusal) (handle : ℕ) (name : List ℕ) (w : State) → IsKept w.soft → is_lasting handle name w.soft ≡ false
-    → Goes R w (uninstall_served answer handle name w)
-uninstall-goes R by (Ok done) handle name w kept free = by.uninstall w.soft handle name kept free
-uninstall-goes R by (Err refusal) handle name w kept free = by.same w.soft kept
-
 open-goes : (R : Soft → Soft → Type 0) → IsKeptBy R → IsKeptBy StillKept → (full : Bool) (handle : ℕ) (name : List ℕ) (agent controller attr : ℕ) (out : Option ℕ) (address : ℕ) (w : State) → IsKept w.soft
     → can_store out w ≡ true → (full ≡ false → CanEnter handle name agent controller attr w.soft)
     → Goes R w (open_served full handle name agent controller attr out address w)
@@ -285,7 +280,6 @@ pub record Ground : Type 0 where
   pub keeps : IsKeptBy StillKept
   pub fits : BlockFits
   pub puts : PuttingLeavesWritable
-  pub lasting : ImagesDoNotLast
 
 -- as many bytes as 8 for each number
 length-number_bytes : (numbers : List ℕ) → length (number_bytes numbers) ≡ 8 * length numbers
@@ -328,8 +322,6 @@ change-goes R by ground (Install handle name address owner out) w kept can =
 change-goes R by ground (InstallMany handle list count owner out) w kept can =
     let both = and_parts (is_writable_range w.soft.memory out 8) (can_install handle list count w) can in
     many-goes R by handle out w (pairs_installed count list owner handle w) kept both.0 (pairs-went R by ground.keeps count list owner handle w kept)
-change-goes R by ground (Uninstall handle name) w kept can =
-    uninstall-goes R by (uninstall_answer handle name w.soft) handle name w kept (ground.lasting w.soft handle name kept can)
 change-goes R by ground (Open handle name agent controller attr out address) w kept can =
     let table : Bool = is_table_full handle name agent controller attr w.soft.records in
     let one = and_parts (can_store out w) (can_enter handle name agent controller attr w) can in
@@ -346,6 +338,9 @@ change-goes R by ground (Block contents buffer count count_first) w kept can =
     block-goes R by ground.keeps ground.fits ground.puts count_first buffer count (contents_count contents w) (contents_bytes contents w) w (is_block_full (length (contents_bytes contents w)) w.soft) kept refl both.0 both.1
 change-goes R by ground (Connect controller list count path at_end recursive) w kept can = by.same w.soft kept
 change-goes R by ground (Disconnect controller driver child) w kept can = by.same w.soft kept
+change-goes R by ground (Remove removal) w kept can = by.same w.soft kept
+change-goes R by ground (Uninstall i) w kept can = by.same w.soft kept
+change-goes R by ground (UninstallMany handle list count) w kept can = by.same w.soft kept
 
 pub end-goes : (R : Soft → Soft → Type 0) → IsKeptBy R → Ground → (result : Result Change Stop) (w : State) → IsKept w.soft → Says (λ change. is_allowed change w ≡ true) result → Goes R w (end_of_row w result)
 end-goes R by ground (Ok change) w kept can = change-goes R by ground change w kept (can change refl)
@@ -382,7 +377,6 @@ fixed-by puts maps = record {
   allot = λ soft bytes kept room. maps soft.memory (block_segment bytes Pool soft) kept.memory.apart;
   free = λ soft at kept done. freeing 0 soft.memory at kept.memory.apart (begins-there at soft done);
   install = λ soft handle new kept fine. refl;
-  uninstall = λ soft handle name kept free. refl;
   enter = λ soft handle name agent controller attr kept can. refl;
   leave = λ soft handle name agent controller kept. refl;
 }
@@ -390,10 +384,10 @@ fixed-by puts maps = record {
 pub fixed-stay : PuttingKeepsFixed → MappingKeepsFixed → Ground → RowsAreAllowed → FixedStay
 fixed-stay puts maps ground allowed = services-go SameFixed (fixed-by puts maps) ground allowed
 
-abbrev SameStacks : Soft → Soft → Type 0
+abbrev pub SameStacks : Soft → Soft → Type 0
 SameStacks a b = stacks b ≡ stacks a
 
-stacks-by : PuttingKeepsStacks → AllottingKeepsStacks → FreeingKeepsStacks → IsKeptBy SameStacks
+pub stacks-by : PuttingKeepsStacks → AllottingKeepsStacks → FreeingKeepsStacks → IsKeptBy SameStacks
 stacks-by puts allots frees = record {
   same = λ soft kept. refl;
   after = λ a b c ab bc. bc ∙ ab;
@@ -402,7 +396,6 @@ stacks-by puts allots frees = record {
   allot = λ soft bytes kept room. allots soft bytes Pool refl;
   free = λ soft at kept done. frees soft at Pool kept refl done;
   install = λ soft handle new kept fine. refl;
-  uninstall = λ soft handle name kept free. refl;
   enter = λ soft handle name agent controller attr kept can. refl;
   leave = λ soft handle name agent controller kept. refl;
 }
@@ -417,7 +410,6 @@ pub record Changes : Type 0 where
   pub allots : AllottingKeeps
   pub frees : FreeingKeeps
   pub installs : InstallingKeeps
-  pub uninstalls : UninstallingKeeps
   pub enters : EnteringKeeps
   pub leaves : LeavingKeeps
 
@@ -430,7 +422,6 @@ kept-by by = record {
   allot = λ soft bytes kept room. by.allots soft bytes Pool kept refl room;
   free = λ soft at kept done. by.frees soft at Pool kept refl done;
   install = λ soft handle new kept fine. by.installs soft handle new kept fine;
-  uninstall = λ soft handle name kept free. by.uninstalls soft handle name kept free;
   enter = λ soft handle name agent controller attr kept can. by.enters soft handle name agent controller attr kept (sym (had handle name soft.database) ∙ can.there) can.by_live can.for_live can.verdict can.legal can.room;
   leave = λ soft handle name agent controller kept. by.leaves soft handle name agent controller kept;
 }

@@ -12,17 +12,18 @@ use Rattle.handle_db.specs.declared.refusal.DbRefusal.{DbRefusal}
 use Rattle.open_records.specs.Adding.{is_full}
 use Rattle.world_model.specs.World.{Hard, State, on_soft, with_memory}
 use Rattle.world_model.specs.Blocks.{block_added, block_freed, is_block_full, is_image_block}
-use Rattle.world_model.specs.Interfaces.{install_answer, interface, interface_added, interface_removed, uninstall_answer}
+use Rattle.world_model.specs.Interfaces.{install_answer, interface, interface_added}
 use Rattle.world_model.specs.Records.{record_entered, records_left}
 use Rattle.world_model.specs.declared.fault.WorldFault.TheVariants as fault
 use Rattle.service_model.specs.BootServices.{end_of_row, row}
-use Rattle.service_model.specs.Changes.{allot_served, applied, block_made, block_served, both_stored, bytes_stored, free_served, install_served, many_served, new_handle_stored, number_stored, open_served, pair_added, pair_at, pair_installed, pairs_installed, stored_if, uninstall_served}
+use Rattle.service_model.specs.Changes.{allot_served, applied, block_made, block_served, both_stored, bytes_stored, free_served, install_served, many_served, new_handle_stored, number_stored, open_served, pair_added, pair_installed, pairs_installed, stored_if}
+use Rattle.service_model.specs.Many.{pair_at}
 use Rattle.service_model.specs.Words.{◌>>=◌}
 use Rattle.service_model.specs.Contents.{contents_bytes, contents_count, number_bytes}
 use Rattle.service_model.specs.SecondLook.{SpendsNothing, looked_again, second_look}
 use Rattle.service_model.specs.Untouched.{EventsStay, TplStays, UnitsNeverRise}
 use Rattle.service_model.specs.declared.plan.Change.{Change}
-use Rattle.service_model.specs.declared.plan.Change.TheVariants.{Allot, Block, Close, Connect, Copy, Disconnect, Fill, Free, Handles, Install, InstallMany, Open, SetTpl, Store, Uninstall, Value}
+use Rattle.service_model.specs.declared.plan.Change.TheVariants.{Allot, Block, Close, Connect, Copy, Disconnect, Fill, Free, Handles, Install, InstallMany, Open, Remove, SetTpl, Store, Uninstall, UninstallMany, Value}
 use Rattle.service_model.specs.declared.plan.Stop.{Stop}
 use Rattle.service_model.specs.declared.plan.Stop.TheVariants as stop
 use Rattle.service_model.proofs.RowLines.{Says}
@@ -35,7 +36,6 @@ record IsLeft {A : Type 0} (part : State → A) : Type 0 where
   block : (bytes : List ℕ) (w : State) → part (on_soft (block_added bytes Pool) w) ≡ part w
   unblock : (at : ℕ) (w : State) → part (on_soft (block_freed at) w) ≡ part w
   install : (handle : Option ℕ) (new : Interface) (w : State) → part (on_soft (interface_added handle new) w) ≡ part w
-  uninstall : (handle : ℕ) (name : List ℕ) (w : State) → part (on_soft (interface_removed handle name) w) ≡ part w
   enter : (handle : ℕ) (name : List ℕ) (agent controller attr : ℕ) (w : State) → part (on_soft (record_entered handle name agent controller attr) w) ≡ part w
   leave : (handle : ℕ) (name : List ℕ) (agent controller : ℕ) (w : State) → part (on_soft (records_left handle name agent controller) w) ≡ part w
 
@@ -94,10 +94,6 @@ module _ {A : Type 0} (part : State → A) (left : IsLeft part) where
   many-ends handle out w (Err (stop.Status status)) same = refl
   many-ends handle out w (Err (stop.Trap cause)) same = refl
 
-  uninstall-ends : (answer : Result Unit DbRefusal) (handle : ℕ) (name : List ℕ) (w : State) → part (uninstall_served answer handle name w).1 ≡ part w
-  uninstall-ends (Ok done) handle name w = left.uninstall handle name w
-  uninstall-ends (Err refusal) handle name w = refl
-
   open-ends : (full : Bool) (handle : ℕ) (name : List ℕ) (agent controller attr : ℕ) (out : Option ℕ) (address : ℕ) (w : State) → part (open_served full handle name agent controller attr out address w).1 ≡ part w
   open-ends true handle name agent controller attr out address w = refl
   open-ends false handle name agent controller attr out address w = store_if-left out address (on_soft (record_entered handle name agent controller attr) w) ∙ left.enter handle name agent controller attr w
@@ -125,7 +121,6 @@ module _ {A : Type 0} (part : State → A) (left : IsLeft part) where
   change-ends (Install handle name address owner out) w other = install-ends (install_answer handle name w.soft) handle name address owner out w
   change-ends (InstallMany handle list count owner out) w other =
       many-ends handle out w (pairs_installed count list owner handle w) (pairs-left count list owner handle w)
-  change-ends (Uninstall handle name) w other = uninstall-ends (uninstall_answer handle name w.soft) handle name w
   change-ends (Open handle name agent controller attr out address) w other =
       open-ends (is_full handle name agent controller attr w.soft.records) handle name agent controller attr out address w
   change-ends (Close handle name agent controller) w other = left.leave handle name agent controller w
@@ -134,6 +129,9 @@ module _ {A : Type 0} (part : State → A) (left : IsLeft part) where
       block-ends count_first buffer count (contents_count contents w) (contents_bytes contents w) w (is_block_full (length (contents_bytes contents w)) w.soft)
   change-ends (Connect controller list count path at_end recursive) w other = refl
   change-ends (Disconnect controller driver child) w other = refl
+  change-ends (Remove removal) w other = refl
+  change-ends (Uninstall i) w other = refl
+  change-ends (UninstallMany handle list count) w other = refl
 
 -- ---- the task priority level
 
@@ -146,7 +144,6 @@ level-left = record {
   block = λ bytes w. refl;
   unblock = λ at w. refl;
   install = λ handle new w. refl;
-  uninstall = λ handle name w. refl;
   enter = λ handle name agent controller attr w. refl;
   leave = λ handle name agent controller w. refl;
 }
@@ -175,7 +172,6 @@ hard-left = record {
   block = λ bytes w. refl;
   unblock = λ at w. refl;
   install = λ handle new w. refl;
-  uninstall = λ handle name w. refl;
   enter = λ handle name agent controller attr w. refl;
   leave = λ handle name agent controller w. refl;
 }

@@ -19,13 +19,13 @@ use Rattle.service_model.specs.Words.{null}
 use Rattle.service_model.specs.BootServices.{row}
 use Rattle.service_model.specs.Connecting.{connect_controller, has_handle}
 use Rattle.service_model.specs.Untouched.{goes_on}
-use Rattle.service_model.specs.Many.{all_fit, pair_interface}
-use Rattle.service_model.specs.Changes.{applied, pair_at, pairs_installed}
+use Rattle.service_model.specs.Many.{all_fit, pair_at, pair_interface}
+use Rattle.service_model.specs.Changes.{applied, pairs_installed}
 use Rattle.service_model.specs.declared.numbers.TheConstants.{CONTEXT_SLOTS, MOST_PAIRS}
 use Rattle.service_model.specs.declared.call.Caller.{Caller}
 use Rattle.service_model.specs.declared.plan.Stop.{Stop}
 use Rattle.service_model.specs.declared.plan.Change.{Change}
-use Rattle.service_model.specs.declared.plan.Change.TheVariants.{Allot, Block, Close, Connect, Copy, Disconnect, Fill, Free, Handles, Install, InstallMany, Open, SetTpl, Store, Uninstall, Value}
+use Rattle.service_model.specs.declared.plan.Change.TheVariants.{Allot, Block, Close, Connect, Copy, Disconnect, Fill, Free, Handles, Install, InstallMany, Open, Remove, SetTpl, Store, Uninstall, UninstallMany, Value}
 
 -- whether a number can be stored, if a place is given for it
 abbrev pub can_store : Option ℕ → State → Bool
@@ -61,9 +61,12 @@ can_install handle list count w =
     && (is_ok (all_fit handle list count w)
     && list_all (λ i. is_ok (pair_interface list i w)) (range_with_len 0 count)))
 
+-- whether so many pairs can be read
+abbrev pub can_read_pairs : (list count : ℕ) → State → Bool
+can_read_pairs list count w = nat_le count MOST_PAIRS && list_all (λ i. is_ok (pair_at list i w)) (range_with_len 0 count)
+
 -- Whether a change can be applied: the bytes that it reads can be read, and those that it writes be
--- written; pairs can be installed; an interface that is removed is an image's; an open can be recorded; and
--- each slot of a list of handles has one.
+-- written; pairs can be installed; an open can be recorded; and each slot of a list of handles has one.
 abbrev pub is_allowed : Change → State → Bool
 is_allowed (Value value) w = true
 is_allowed (SetTpl tpl answer) w = true
@@ -74,7 +77,6 @@ is_allowed (Fill to n byte) w = is_writable_range w.soft.memory to n
 is_allowed (Store out value status) w = can_store out w
 is_allowed (Install handle name address owner out) w = is_writable_range w.soft.memory out 8
 is_allowed (InstallMany handle list count owner out) w = is_writable_range w.soft.memory out 8 && can_install handle list count w
-is_allowed (Uninstall handle name) w = is_of_image (interface_of handle name w.soft.database)
 is_allowed (Open handle name agent controller attr out address) w =
     can_store out w && can_enter handle name agent controller attr w
 is_allowed (Close handle name agent controller) w = true
@@ -85,6 +87,9 @@ is_allowed (Block contents buffer count count_first) w =
 is_allowed (Connect controller list count path at_end recursive) w =
     nat_lt count CONTEXT_SLOTS && list_all (has_handle list w) (range_with_len 0 count)
 is_allowed (Disconnect controller driver child) w = true
+is_allowed (Remove removal) w = true
+is_allowed (Uninstall i) w = true
+is_allowed (UninstallMany handle list count) w = can_read_pairs list count w
 
 -- a row ends with no change that cannot be applied
 abbrev pub RowsAreAllowed : Type 0
@@ -97,7 +102,7 @@ BlocksLeaveWritable =
     (soft : Soft) (bytes : List ℕ) (at n : ℕ) → IsKept soft → is_block_full (length bytes) soft ≡ false
     → is_writable_range soft.memory at n ≡ true → is_writable_range (block_added bytes Pool soft).memory at n ≡ true
 
--- what the firmware does not own can be uninstalled
+-- what the firmware does not own is none of the interfaces that always stay
 abbrev pub ImagesDoNotLast : Type 0
 ImagesDoNotLast =
     (soft : Soft) (handle : ℕ) (name : List ℕ) → IsKept soft → is_of_image (interface_of handle name soft.database) ≡ true
@@ -161,10 +166,15 @@ ContextEndsAtZero =
     → connect_controller controller list path recursive w ≡ Ok (Connect other at count way at_end children)
     → (if null list then nat_eq count 0 else is_zero (number_of w.soft.memory (slot_at list count) 8)) ≡ true
 
+-- ---- going on
+
 -- a service that goes on leaves the state as it is
 abbrev pub goes_again : Change → Bool
 goes_again (Connect controller list count path at_end recursive) = true
 goes_again (Disconnect controller driver child) = true
+goes_again (Remove removal) = true
+goes_again (Uninstall i) = true
+goes_again (UninstallMany handle list count) = true
 goes_again _ = false
 
 abbrev pub ReentriesChangeNothing : Type 0

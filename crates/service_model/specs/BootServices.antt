@@ -11,7 +11,7 @@ use Rattle.world_model.specs.Units.{units_spent}
 use Rattle.service_model.specs.Words.{◌>>=◌, slots}
 use Rattle.service_model.specs.Rows.{allocate_pool, copy_mem, free_pool, raise_tpl, restore_tpl, set_mem, stall, unbuilt}
 use Rattle.service_model.specs.Protocols.{close, handle_protocol, install, locate_handle, locate_handle_buffer, locate_protocol, open_protocol, open_protocol_information, protocols_per_handle, uninstall}
-use Rattle.service_model.specs.Many.{first_pair, install_multiple}
+use Rattle.service_model.specs.Many.{first_pair, install_multiple, uninstall_multiple}
 use Rattle.service_model.specs.Connecting.{connect_controller, disconnect_controller}
 use Rattle.service_model.specs.Changes.{applied, stop_answered}
 use Rattle.service_model.specs.declared.call.Caller.{Caller}
@@ -79,7 +79,7 @@ row ProtocolsPerHandle = fixed 3 16 (λ c a. protocols_per_handle (arg a 0) (arg
 row LocateHandleBuffer = fixed 5 16 (λ c a. locate_handle_buffer (arg32 a 0) (arg a 1) (arg a 3) (arg a 4))
 row LocateProtocol = fixed 3 16 (λ c a. locate_protocol (arg a 0) (arg a 2))
 row InstallMultiple = fixed 1 16 (λ c a. install_multiple c.image (arg a 0) (first_pair c.sp))
-row UninstallMultiple = unbuilt_row
+row UninstallMultiple = fixed 1 16 (λ c a. uninstall_multiple (arg a 0) (first_pair c.sp))
 row CopyMem = priced 3 (λ a. 1 + per 8 (arg a 2)) (λ c a. copy_mem (arg a 0) (arg a 1) (arg a 2))
 row SetMem = priced 3 (λ a. 1 + per 8 (arg a 1)) (λ c a. set_mem (arg a 0) (arg a 1) (arg8 a 2))
 row Unbuilt = unbuilt_row

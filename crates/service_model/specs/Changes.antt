@@ -5,25 +5,25 @@ use Rattle.handle_db.specs.Database.{handles_with}
 use Rattle.handle_db.specs.declared.refusal.DbRefusal.{DbRefusal}
 use Rattle.open_records.specs.Adding.{is_full}
 use Rattle.fw_types.specs.declared.status.Status.{Status as StatusValue}
-use Rattle.fw_types.specs.declared.status.TheConstants.Status.{INVALID_PARAMETER, NOT_FOUND, OUT_OF_RESOURCES, SUCCESS}
+use Rattle.fw_types.specs.declared.status.TheConstants.Status.{INVALID_PARAMETER, OUT_OF_RESOURCES, SUCCESS}
 use Rattle.guest_memory.specs.GuestMemory.{bytes_of, put_bytes}
 use Rattle.guest_memory.specs.declared.segment.SegKind.TheVariants.{Pool}
 use Rattle.world_model.specs.World.{State, on_soft, with_memory, with_tpl}
 use Rattle.world_model.specs.Blocks.{allot_answer, block_added, block_freed, free_answer}
-use Rattle.world_model.specs.Interfaces.{install_answer, interface, interface_added, interface_removed, uninstall_answer}
+use Rattle.world_model.specs.Interfaces.{install_answer, interface, interface_added}
 use Rattle.world_model.specs.Records.{record_entered, records_left}
 use Rattle.world_model.specs.declared.fault.WorldFault.{WorldFault}
 use Rattle.service_model.specs.Words.{◌>>=◌}
 use Rattle.service_model.specs.Contents.{contents_bytes, contents_count, number_bytes}
 use Rattle.service_model.specs.Connecting.{context_of}
-use Rattle.service_model.specs.Many.{pair_interface, pair_name}
+use Rattle.service_model.specs.Many.{interfaces_named, pair_at}
 use Rattle.service_model.specs.declared.call.Reentry.TheVariants as reentry
 use Rattle.service_model.specs.declared.call.Served.{Served}
 use Rattle.service_model.specs.declared.call.Served.TheVariants as served
 use Rattle.service_model.specs.declared.plan.Stop.{Stop}
 use Rattle.service_model.specs.declared.plan.Stop.TheVariants.{Status, Trap}
 use Rattle.service_model.specs.declared.plan.Change.{Change}
-use Rattle.service_model.specs.declared.plan.Change.TheVariants.{Allot, Block, Close, Connect, Copy, Disconnect, Fill, Free, Handles, Install, InstallMany, Open, SetTpl, Store, Uninstall, Value}
+use Rattle.service_model.specs.declared.plan.Change.TheVariants.{Allot, Block, Close, Connect, Copy, Disconnect, Fill, Free, Handles, Install, InstallMany, Open, Remove, SetTpl, Store, Uninstall, UninstallMany, Value}
 
 -- the service answers a status, with the state that it leaves
 abbrev pub status_answered : StatusValue → State → Served × State
@@ -89,10 +89,6 @@ install_served (Ok new) handle name address owner out w =
     status_answered SUCCESS (new_handle_stored handle out new (on_soft (interface_added handle (interface name address owner)) w))
 install_served (Err refusal) handle name address owner out w = status_answered OUT_OF_RESOURCES w
 
--- the GUID and the interface of a pair
-abbrev pub pair_at : (list i : ℕ) → State → Result (List ℕ × ℕ) Stop
-pair_at list i w = pair_name list i w >>= λ name. pair_interface list i w >>= λ address. Ok (name, address)
-
 -- a pair is installed on a handle, or on a new one, which is then the handle of those after it
 abbrev pub pair_added : Result ℕ DbRefusal → Option ℕ → List ℕ × ℕ → (owner : ℕ) → State → Result (Option ℕ × State) Stop
 pair_added (Ok number) handle pair owner w = Ok (Some number, on_soft (interface_added handle (interface pair.0 pair.1 owner)) w)
@@ -117,11 +113,6 @@ abbrev pub many_served : Option ℕ → (out : ℕ) → (before : State) → Res
 many_served handle out before (Ok end) = status_answered SUCCESS (first_handle_stored handle out end)
 many_served handle out before (Err stop) = stop_answered stop before
 
--- an interface is removed, with the records on it
-abbrev pub uninstall_served : Result Unit DbRefusal → (handle : ℕ) → List ℕ → State → Served × State
-uninstall_served (Ok done) handle name w = status_answered SUCCESS (on_soft (interface_removed handle name) w)
-uninstall_served (Err refusal) handle name w = status_answered NOT_FOUND w
-
 -- an open is recorded, unless there are as many records as there may be
 abbrev pub open_served : (full : Bool) (handle : ℕ) → List ℕ → (agent controller attr : ℕ) → Option ℕ → (address : ℕ) → State → Served × State
 open_served true handle name agent controller attr out address w = status_answered OUT_OF_RESOURCES w
@@ -140,7 +131,6 @@ applied (Fill to n byte) w = status_answered SUCCESS (bytes_stored to (replicate
 applied (Store out value status) w = status_answered status (stored_if out value w)
 applied (Install handle name address owner out) w = install_served (install_answer handle name w.soft) handle name address owner out w
 applied (InstallMany handle list count owner out) w = many_served handle out w (pairs_installed count list owner handle w)
-applied (Uninstall handle name) w = uninstall_served (uninstall_answer handle name w.soft) handle name w
 applied (Open handle name agent controller attr out address) w =
     open_served (is_full handle name agent controller attr w.soft.records) handle name agent controller attr out address w
 applied (Close handle name agent controller) w = status_answered SUCCESS (on_soft (records_left handle name agent controller) w)
@@ -151,3 +141,6 @@ applied (Block contents buffer count count_first) w =
 applied (Connect controller list count path at_end recursive) w =
     (served.Again (reentry.Connect controller (context_of list count w) path at_end recursive), w)
 applied (Disconnect controller driver child) w = (served.Again (reentry.Disconnect controller driver child), w)
+applied (Remove removal) w = (served.Again (reentry.Remove removal), w)
+applied (Uninstall i) w = (served.Again (reentry.Uninstall i), w)
+applied (UninstallMany handle list count) w = (served.Again (reentry.UninstallMany (interfaces_named handle list count w)), w)

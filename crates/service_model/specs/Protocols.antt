@@ -1,5 +1,5 @@
 -- What each of the protocol handler services does with its arguments (UEFI 2.8, 7.3), except
--- InstallMultipleProtocolInterfaces, which is in `Many`, and ConnectController and DisconnectController,
+-- InstallMultipleProtocolInterfaces and UninstallMultipleProtocolInterfaces, which are in `Many`, and ConnectController and DisconnectController,
 -- which are in `Connecting`.
 use Rattle.std.specs.Prelude.{ℕ, ◌*◌, Bool, true, false, ◌&&◌, ◌||◌, not, nat_eq, nat_lt, List, length, Option, Some, None, Result, Ok, Err, if◌then◌else◌}
 use Rattle.std.specs.List.{list_any}
@@ -15,12 +15,13 @@ use Rattle.open_records.specs.declared.verdict.Verdict.TheVariants.{Add, Count, 
 use Rattle.world_model.specs.World.{State}
 use Rattle.world_model.specs.Interfaces.{firmware}
 use Rattle.service_model.specs.Words.{◌>>=◌, ◌>>◌, alive, dead, guid, has_protocol, legal, handle_or_none, null, number, refuse_if, installed_interface, writable}
+use Rattle.service_model.specs.declared.call.Opening.{Opening}
 use Rattle.service_model.specs.declared.numbers.TheConstants.{ALL_HANDLES, BY_PROTOCOL, NATIVE_INTERFACE}
 use Rattle.service_model.specs.declared.plan.Stop.{Stop}
 use Rattle.service_model.specs.declared.plan.Stop.TheVariants.{Status}
 use Rattle.service_model.specs.declared.plan.Contents.TheVariants as contents
 use Rattle.service_model.specs.declared.plan.Change.{Change}
-use Rattle.service_model.specs.declared.plan.Change.TheVariants.{Block, Close, Handles, Install, Open, Store, Uninstall}
+use Rattle.service_model.specs.declared.plan.Change.TheVariants.{Block, Close, Handles, Install, Open, Remove, Store, Uninstall}
 
 -- ---- installing and uninstalling
 
@@ -42,8 +43,7 @@ abbrev pub has_record : ℕ → List ℕ → (agent controller : Option ℕ) (bi
 has_record handle name agent controller bits w =
     list_any (is_meant agent controller bits) (records_of w.soft.records.entries handle name)
 
--- UninstallProtocolInterface. What the firmware owns stays. No driver is disconnected: the interface stays
--- if an agent uses it, as a driver, exclusively or for a child.
+-- UninstallProtocolInterface, up to where its driver is disconnected
 abbrev pub uninstall : (given guid_at interface : ℕ) → State → Result Change Stop
 uninstall given guid_at interface w = do
   refuse_if (null guid_at) INVALID_PARAMETER
@@ -51,9 +51,7 @@ uninstall given guid_at interface w = do
   handle ← alive given INVALID_PARAMETER w
   found ← installed_interface handle name w
   refuse_if (not (nat_eq found.0 interface)) NOT_FOUND
-  refuse_if (nat_eq found.1 firmware) ACCESS_DENIED
-  refuse_if (has_record handle name None None AGENT_BITS w) ACCESS_DENIED
-  Ok (Uninstall handle name)
+  Ok (Uninstall (record { handle = handle; guid = name; interface = interface }))
 
 -- ---- opening and closing
 
@@ -68,26 +66,30 @@ out_of attr out = if nat_eq attr TEST_PROTOCOL then None else Some out
 abbrev pub out_size : (bits : ℕ) → ℕ
 out_size bits = if nat_eq bits TEST_PROTOCOL then 0 else 8
 
--- What the open records of the interface say decides. If a driver would have to be disconnected first,
--- the open is denied.
-abbrev pub change_for_verdict : Verdict → (handle : ℕ) → List ℕ → (out agent controller attr interface : ℕ) → Result Change Stop
-change_for_verdict Add handle name out agent controller attr interface = Ok (Open handle name agent controller attr (out_of attr out) interface)
-change_for_verdict Count handle name out agent controller attr interface = Ok (Open handle name agent controller attr (out_of attr out) interface)
-change_for_verdict Already handle name out agent controller attr interface = Ok (Store (out_of attr out) interface ALREADY_STARTED)
-change_for_verdict Denied handle name out agent controller attr interface = Err (Status ACCESS_DENIED)
-change_for_verdict (MustDisconnect holder) handle name out agent controller attr interface = Err (Status ACCESS_DENIED)
+-- What the open records of the interface say decides, for an agent and a controller that are live or 0. A driver
+-- that is in the way is disconnected first, and then the open is looked at again as it was asked for.
+abbrev pub change_for_verdict : Verdict → Opening → (agent controller interface : ℕ) → Result Change Stop
+change_for_verdict Add o agent controller interface = Ok (Open o.handle o.guid agent controller o.attr (out_of o.attr o.out) interface)
+change_for_verdict Count o agent controller interface = Ok (Open o.handle o.guid agent controller o.attr (out_of o.attr o.out) interface)
+change_for_verdict Already o agent controller interface = Ok (Store (out_of o.attr o.out) interface ALREADY_STARTED)
+change_for_verdict Denied o agent controller interface = Err (Status ACCESS_DENIED)
+change_for_verdict (MustDisconnect holder) o agent controller interface = Ok (Remove (record { opening = o; victim = holder }))
 
 -- an open by an agent that counts as 0 is not recorded, and no record is in its way
-abbrev pub open_by_records : (handle : ℕ) → List ℕ → (out agent controller attr interface : ℕ) → State → Result Change Stop
-open_by_records handle name out agent controller attr interface w =
-    if null agent then Ok (Store (out_of attr out) interface SUCCESS)
-    else change_for_verdict (judge (records_of w.soft.records.entries handle name) agent controller attr) handle name out agent controller attr interface
+abbrev pub open_by_records : Opening → (agent controller interface : ℕ) → State → Result Change Stop
+open_by_records o agent controller interface w =
+    if null agent then Ok (Store (out_of o.attr o.out) interface SUCCESS)
+    else change_for_verdict (judge (records_of w.soft.records.entries o.handle o.guid) agent controller o.attr) o agent controller interface
 
 -- 0 is stored if the handle does not have the protocol
-abbrev pub open_by_interface : Option (ℕ × ℕ) → (handle : ℕ) → List ℕ → (out agent controller attr : ℕ) → State → Result Change Stop
-open_by_interface None handle name out agent controller attr w = Ok (Store (out_of attr out) 0 UNSUPPORTED)
-open_by_interface (Some found) handle name out agent controller attr w =
-    open_by_records handle name out (live_or_zero agent w) (live_or_zero controller w) attr found.0 w
+abbrev pub open_by_interface : Option (ℕ × ℕ) → Opening → State → Result Change Stop
+open_by_interface None o w = Ok (Store (out_of o.attr o.out) 0 UNSUPPORTED)
+open_by_interface (Some found) o w = open_by_records o (live_or_zero o.agent w) (live_or_zero o.controller w) found.0 w
+
+-- an open with the arguments as they were given
+abbrev pub opening : (handle : ℕ) → List ℕ → (out agent controller attr : ℕ) → Opening
+opening handle name out agent controller attr =
+    record { handle = handle; guid = name; out = out; agent = agent; controller = controller; attr = attr }
 
 -- OpenProtocol
 abbrev pub open_protocol : (given guid_at out agent controller bits : ℕ) → State → Result Change Stop
@@ -101,7 +103,7 @@ open_protocol given guid_at out agent controller bits w = do
   refuse_if (has_bit_of AGENT_BITS attr && dead agent w) INVALID_PARAMETER
   refuse_if (has_bit_of CONTROLLER_BITS attr && dead controller w) INVALID_PARAMETER
   refuse_if (nat_eq attr BY_CHILD_CONTROLLER && nat_eq handle controller) INVALID_PARAMETER
-  open_by_interface (interface_of handle name w.soft.database) handle name out agent controller attr w
+  open_by_interface (interface_of handle name w.soft.database) (opening handle name out agent controller attr) w
 
 -- HandleProtocol opens as the firmware does, for no controller
 abbrev pub handle_protocol : (given guid_at out : ℕ) → State → Result Change Stop

@@ -4,7 +4,7 @@ use Rattle.fw_types.specs.Status.{is_error}
 use Rattle.fw_types.specs.declared.event.Cause.{Cause}
 use Rattle.fw_types.specs.declared.event.Cause.TheVariants.{Budget, Memory}
 use Rattle.service_thunks.specs.declared.service.Service.{Service}
-use Rattle.service_thunks.specs.declared.service.Service.TheVariants.{ConnectController, DisconnectController, RaiseTpl, RestoreTpl}
+use Rattle.service_thunks.specs.declared.service.Service.TheVariants.{ConnectController, DisconnectController, OpenProtocol, RaiseTpl, RestoreTpl, Uninstall, UninstallMultiple}
 use Rattle.world_model.specs.World.{State, on_hard}
 use Rattle.world_model.specs.Units.{units_spent}
 use Rattle.world_model.specs.Fixed.{fixed_segments}
@@ -105,6 +105,9 @@ goes_on (Again reentry) = true
 abbrev pub may_go_on : Service → Bool
 may_go_on ConnectController = true
 may_go_on DisconnectController = true
+may_go_on OpenProtocol = true
+may_go_on Uninstall = true
+may_go_on UninstallMultiple = true
 may_go_on _ = false
 
 -- no other one does

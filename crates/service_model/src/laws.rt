@@ -12,7 +12,12 @@ ghost use Rattle.service_model.specs.Allowed.{
   RowInstallsPairs,
   RowsAreAllowed,
 };
-ghost use Rattle.service_model.specs.SecondLook.{SpendsNothing};
+ghost use Rattle.service_model.specs.SecondLook.{
+  SecondLooksAreAllowed,
+  SecondLooksEnd,
+  SecondLooksLeaveStacks,
+  SpendsNothing,
+};
 ghost use Rattle.service_model.specs.Untouched.{
   ErrorsChangeNothing,
   EventsStay,
@@ -31,9 +36,8 @@ ghost use Rattle.service_model.specs.Untouched.{
 use world_model::laws::{changes_keep, fixed_segments_stay, segments_fit, stacks_stand};
 
 /// A row ends only with a change that can be applied: the bytes that it reads and writes can be read
-/// and written; an interface that is removed is an image's; pairs can be installed; and an open that is
-/// recorded is of an interface that is there, by a live agent, for a live controller or for none, with a
-/// legal attribute, and no record keeps it out.
+/// and written; pairs can be installed; and an open that is recorded is of an interface that is there, by
+/// a live agent, for a live controller or for none, with a legal attribute, and no record keeps it out.
 pub fn rows_are_allowed()
     ensures { RowsAreAllowed }
 {}
@@ -84,7 +88,6 @@ pub fn services_keep()
     stacks_stand();
     segments_fit();
     puts_leave_writable();
-    images_do_not_last();
     rows_are_allowed();
 }
 
@@ -107,8 +110,8 @@ pub fn services_trap()
     ensures unreadable { UnreadablePriceTraps }
 {}
 
-/// No boot service enters the driver model again, except for ConnectController and
-/// DisconnectController.
+/// No boot service enters the driver model again, except for ConnectController, DisconnectController,
+/// OpenProtocol, UninstallProtocolInterface and UninstallMultipleProtocolInterfaces.
 pub fn services_end()
     ensures { OthersEnd }
 {}
@@ -118,3 +121,16 @@ pub fn services_end()
 pub fn second_looks_spend_nothing()
     ensures { SpendsNothing }
 {}
+
+/// The second look of an OpenProtocol ends only with a change that can be applied, and does not enter the
+/// driver model again. It leaves all stacks.
+pub fn second_looks_end()
+    ensures allowed { SecondLooksAreAllowed }
+    ensures ends { SecondLooksEnd }
+    ensures stacks { SecondLooksLeaveStacks }
+{
+    changes_keep();
+    stacks_stand();
+    segments_fit();
+    puts_leave_writable();
+}

@@ -14,7 +14,7 @@ pub mod laws;
 mod numbers;
 mod plan;
 
-pub use call::{Caller, Reentry, Served};
+pub use call::{Caller, HandleInterface, Opening, Reentry, Removal, Served};
 pub use numbers::{
     ALL_HANDLES, BY_PROTOCOL, CONTEXT_SLOTS, END_NODE, MOST_PAIRS, NATIVE_INTERFACE, TPL_HIGH_LEVEL,
 };

@@ -1,3 +1,4 @@
+use crate::call::{HandleInterface, Removal};
 use fw_types::{Attr, Cause, Guid, Handle, Status};
 
 /// Why a row stops. Then it changes nothing.
@@ -105,13 +106,6 @@ pub enum Change {
         /// Where the number of a new handle is stored.
         out: u64,
     },
-    /// A protocol interface is removed with its open records. An image owns it, not the firmware.
-    Uninstall {
-        /// The handle that has it.
-        handle: Handle,
-        /// The protocol.
-        guid: Guid,
-    },
     /// An open of an interface is recorded.
     Open {
         /// The handle that has it.
@@ -183,5 +177,19 @@ pub enum Change {
         driver: u64,
         /// The child that is destroyed, or 0 for all children.
         child: u64,
+    },
+    /// Nothing changes, and the service goes on to disconnect a driver that is in the way of an open.
+    Remove(Removal),
+    /// Nothing changes, and the service goes on to uninstall a protocol interface.
+    Uninstall(HandleInterface),
+    /// Nothing changes, and the service goes on to uninstall protocol interfaces of one handle.
+    UninstallMany {
+        /// The handle that has them.
+        handle: Handle,
+        /// Where the list of them begins: for each 8 bytes that point to a GUID and 8 bytes of an
+        /// interface.
+        list: u64,
+        /// How many there are, at most `MOST_PAIRS`.
+        count: u64,
     },
 }

@@ -1,6 +1,6 @@
 -- A list of handles, slot by slot.
-use Rattle.std.proofs.Common.{◌≡◌, ◌+◌, ◌-◌, ◌<◌, ℕ, Bool, true, false, not, nat_eq, find, refl, sym, ap, ◌∙◌, arith}
-use Rattle.std.specs.Prelude.{Option, Some, None, Result, Ok, Err}
+use Rattle.std.proofs.Common.{◌≡◌, ◌+◌, ◌-◌, ◌<◌, ℕ, true, false, not, nat_eq, find, sym, ap, ◌∙◌, arith}
+use Rattle.std.specs.Prelude.{Option, Some, Result, Ok}
 use Rattle.std.specs.List.{range_with_len}
 use Rattle.service_thunks.specs.Arguments.{slot_at}
 use Rattle.world_model.specs.World.{State}

@@ -1,5 +1,5 @@
 -- Lines for the numbers of a range, one after the other, and a test of each.
-use Rattle.std.proofs.Common.{◌≡◌, ◌+◌, ◌-◌, ◌<◌, ℕ, Bool, true, false, find, refl, Option, Some, Result, Ok, Err}
+use Rattle.std.proofs.Common.{◌≡◌, ◌+◌, ◌-◌, ◌<◌, ℕ, Bool, true, false, find, refl, Some, Result, Ok, Err}
 use Rattle.std.specs.List.{list_any, range_with_len}
 use Rattle.service_model.specs.Words.{each}
 use Rattle.service_model.specs.declared.plan.Stop.{Stop}

@@ -1,13 +1,14 @@
-//! InstallMultipleProtocolInterfaces (UEFI 2.8, 7.3): the pairs after its first argument, and what refuses
-//! them.
+//! InstallMultipleProtocolInterfaces and UninstallMultipleProtocolInterfaces (UEFI 2.8, 7.3): the pairs after
+//! their first argument, and what refuses them.
 ghost use Rattle.std.specs.Prelude.{◌≡◌, ◌≤◌, ◌+◌, length, suc, IfOk};
 ghost use Rattle.std.specs.List.{range_with_len};
 ghost use Rattle.handle_db.specs.Database.{interfaces_of};
-ghost use Rattle.service_model.specs.Many.{all_fit, first_pair, handle_for, install_multiple, interface_place, is_named, is_seen, name_readable, no_room, pair_fits, pair_interface, pair_name, pair_place, pairs_before};
-ghost use Rattle.service_model.specs.Changes.{pair_at};
+ghost use Rattle.service_model.specs.Many.{all_fit, first_pair, handle_for, install_multiple, interface_place, is_named, is_seen, name_readable, no_room, pair_at, pair_fits, pair_installed_on, pair_interface, pair_name, pair_place, pairs_before, uninstall_multiple};
 ghost use Rattle.service_model.specs.Words.{each};
 
-use crate::words::{guid, handle_or_none, has_protocol, number, readable, refuse_if, writable};
+use crate::words::{
+    alive, guid, handle_or_none, has_protocol, number, readable, refuse_if, writable,
+};
 use fw_types::{Guid, Handle, MOST_INTERFACES, Status};
 use fw_world::World;
 use service_model::{Change, MOST_PAIRS, Stop};
@@ -65,6 +66,14 @@ fn pair_before(less: u64, done: u64, list: u64, w: &World) -> Result<(u64, bool)
     }
     let _interface = number(interface_place(list, done), w)?;
     pairs_before(less, done + 1, list, w)
+}
+
+/// How many pairs the list of a service has, at most `MOST_PAIRS`, and whether it ends after them.
+fn pairs_of(list: u64, w: &World) -> Result<(u64, bool), Stop>
+    ensures value { result ≡ pairs_before MOST_PAIRS 0 list w.now.now }
+    ensures few { IfOk result (λ pairs. pairs.0 ≤ MOST_PAIRS) }
+{
+    pairs_before(MOST_PAIRS, 0, list, w)
 }
 
 /// The GUID of a pair.
@@ -205,7 +214,7 @@ fn handle_for(given: u64, count: u64, w: &World) -> Result<Option<Handle>, Stop>
 pub fn install_multiple(owner: Handle, handle_at: u64, list: u64, w: &World) -> Result<Change, Stop>
     ensures { result ≡ install_multiple owner handle_at list w.now.now }
 {
-    let (count, ended) = pairs_before(MOST_PAIRS, 0, list, w)?;
+    let (count, ended) = pairs_of(list, w)?;
     refuse_if(handle_at == 0, Status::INVALID_PARAMETER)?;
     writable(8, handle_at, w)?;
     let given = number(handle_at, w)?;
@@ -219,5 +228,53 @@ pub fn install_multiple(owner: Handle, handle_at: u64, list: u64, w: &World) -> 
         count,
         owner,
         out: handle_at,
+    })
+}
+
+// ---- uninstalling
+
+/// Goes on if the handle has the interface of a pair.
+fn pair_installed_on(handle: Handle, list: u64, i: u64, w: &World) -> Result<(), Stop>
+    requires { i ≤ MOST_PAIRS }
+    ensures { result ≡ pair_installed_on handle list w.now.now i }
+{
+    let (guid, interface) = pair_at(list, i, w)?;
+    let there = match w.db().interface(handle, guid) {
+        None => false,
+        Some((address, _)) => address == interface,
+    };
+    refuse_if(!there, Status::INVALID_PARAMETER)
+}
+
+/// Goes on if the handle has the interfaces of the first pairs.
+fn all_installed_on(handle: Handle, list: u64, count: u64, w: &World) -> Result<(), Stop>
+    requires { count ≤ MOST_PAIRS }
+    ensures { result ≡ each (pair_installed_on handle list w.now.now) (range_with_len 0 count) }
+{
+    for i in 0..count {
+        pair_installed_on(handle, list, i, w)?;
+    }
+    Ok(())
+}
+
+/// UninstallMultipleProtocolInterfaces: the pairs begin at `list`. The service goes on with pairs that are
+/// all there.
+///
+/// # Errors
+///
+/// `Status` with INVALID_PARAMETER if the handle is dead, no 0 follows `MOST_PAIRS` pairs, or the handle
+/// does not have one of the pairs; `Trap` with `Memory` if the list or a GUID can't be read.
+pub fn uninstall_multiple(given: u64, list: u64, w: &World) -> Result<Change, Stop>
+    ensures { result ≡ uninstall_multiple given list w.now.now }
+{
+    let (count, ended) = pairs_of(list, w)?;
+    names_readable(list, count, w)?;
+    let handle = alive(given, Status::INVALID_PARAMETER, w)?;
+    refuse_if(!ended, Status::INVALID_PARAMETER)?;
+    all_installed_on(handle, list, count, w)?;
+    Ok(Change::UninstallMany {
+        handle,
+        list,
+        count,
     })
 }

@@ -1,5 +1,6 @@
-//! The protocol handler services (UEFI 2.8, 7.3), except InstallMultipleProtocolInterfaces, which is in
-//! `many`, and ConnectController and DisconnectController, which are in `connecting`.
+//! The protocol handler services (UEFI 2.8, 7.3), except InstallMultipleProtocolInterfaces and
+//! UninstallMultipleProtocolInterfaces, which are in `many`, and ConnectController and
+//! DisconnectController, which are in `connecting`.
 ghost use Rattle.std.specs.Prelude.{◌≡◌, ◌*◌, ◌^◌, ◌<◌};
 ghost use Rattle.service_model.specs.Protocols.{close, live_or_zero, handle_protocol, has_record, how_many, install, locate_handle, locate_handle_buffer, locate_protocol, change_for_found, open_protocol, open_protocol_information, open_by_interface, out_of, out_size, protocols_per_handle, refuse_search, change_for_verdict, open_by_records, search_protocol, handles_in_buffer, uninstall};
 
@@ -10,7 +11,10 @@ use crate::words::{
 use fw_types::{Attr, Guid, Handle, Status};
 use fw_world::World;
 use open_records::Verdict;
-use service_model::{ALL_HANDLES, BY_PROTOCOL, Change, Contents, NATIVE_INTERFACE, Stop};
+use service_model::{
+    ALL_HANDLES, BY_PROTOCOL, Change, Contents, HandleInterface, NATIVE_INTERFACE, Opening,
+    Removal, Stop,
+};
 
 // ---- installing and uninstalling
 
@@ -48,7 +52,7 @@ pub fn install(
 
 /// Whether an interface has an open record with one of some bits, and of an agent and for a controller if
 /// they are given.
-fn has_record(
+pub fn has_record(
     handle: Handle,
     name: Guid,
     agent: Option<u64>,
@@ -61,40 +65,38 @@ fn has_record(
     w.entries().has_meant(handle, name, agent, controller, bits)
 }
 
-/// UninstallProtocolInterface. No driver is disconnected.
+/// UninstallProtocolInterface: the service goes on with an interface that is there.
 ///
 /// # Errors
 ///
-/// `Status` with INVALID_PARAMETER if the GUID is NULL or the handle is dead, with NOT_FOUND if the handle
-/// does not have the protocol with this interface, or with ACCESS_DENIED if the firmware owns it or an agent
-/// uses it; `Trap` with `Memory` if the GUID can't be read.
+/// `Status` with INVALID_PARAMETER if the GUID is NULL or the handle is dead, or with NOT_FOUND if the
+/// handle does not have the protocol with this interface; `Trap` with `Memory` if the GUID can't be read.
 pub fn uninstall(given: u64, guid_at: u64, interface: u64, w: &World) -> Result<Change, Stop>
     ensures { result ≡ uninstall given guid_at interface w.now.now }
 {
     refuse_if(guid_at == 0, Status::INVALID_PARAMETER)?;
     let guid = guid(guid_at, w)?;
     let handle = alive(given, Status::INVALID_PARAMETER, w)?;
-    let (address, owner) = installed_interface(handle, guid, w)?;
+    let (address, _) = installed_interface(handle, guid, w)?;
     refuse_if(address != interface, Status::NOT_FOUND)?;
-    refuse_if(owner == Handle::firmware(), Status::ACCESS_DENIED)?;
-    refuse_if(
-        has_record(handle, guid, None, None, Attr::AGENT_BITS, w),
-        Status::ACCESS_DENIED,
-    )?;
-    Ok(Change::Uninstall { handle, guid })
+    Ok(Change::Uninstall(HandleInterface {
+        handle,
+        guid,
+        interface,
+    }))
 }
 
 // ---- opening and closing
 
 /// A handle's number, or 0 if it is not live.
-fn live_or_zero(handle: u64, w: &World) -> u64
+pub fn live_or_zero(handle: u64, w: &World) -> u64
     ensures { result ≡ live_or_zero handle w.now.now }
 {
     if dead(handle, w) { 0 } else { handle }
 }
 
 /// The address at which the interface is stored: none with TEST_PROTOCOL.
-fn out_of(attr: u32, out: u64) -> Option<u64>
+pub fn out_of(attr: u32, out: u64) -> Option<u64>
     ensures { result ≡ out_of attr out }
 {
     if attr == Attr::TEST_PROTOCOL {
@@ -105,34 +107,30 @@ fn out_of(attr: u32, out: u64) -> Option<u64>
 }
 
 /// How many bytes the interface takes there: none with TEST_PROTOCOL.
-fn out_size(bits: u32) -> u64
+pub fn out_size(bits: u32) -> u64
     ensures { result ≡ out_size bits }
 {
     if bits == Attr::TEST_PROTOCOL { 0 } else { 8 }
 }
 
-/// An open of a protocol, which is recorded if nothing keeps it out.
-#[derive(Clone, Copy)]
-struct Opening {
-    handle: Handle,
-    guid: Guid,
-    out: u64,
+/// What an open ends with, by what the records of the interface say. The agent and the controller are live
+/// or 0.
+fn change_for_verdict(
+    verdict: Verdict,
+    o: &Opening,
     agent: u64,
     controller: u64,
-    attr: Attr,
-}
-
-/// What an open ends with, by what the records of the interface say.
-fn change_for_verdict(verdict: Verdict, o: &Opening, interface: u64) -> Result<Change, Stop>
-    ensures { result ≡ change_for_verdict verdict o.now.handle o.now.guid o.now.out o.now.agent o.now.controller o.now.attr interface }
+    interface: u64,
+) -> Result<Change, Stop>
+    ensures { result ≡ change_for_verdict verdict o.now agent controller interface }
 {
     let out = out_of(o.attr.bits(), o.out);
     match verdict {
         Verdict::Add | Verdict::Count => Ok(Change::Open {
             handle: o.handle,
             guid: o.guid,
-            agent: o.agent,
-            controller: o.controller,
+            agent,
+            controller,
             attr: o.attr,
             out,
             interface,
@@ -142,15 +140,25 @@ fn change_for_verdict(verdict: Verdict, o: &Opening, interface: u64) -> Result<C
             value: interface,
             status: Status::ALREADY_STARTED,
         }),
-        Verdict::Denied | Verdict::MustDisconnect(_) => Err(Stop::Status(Status::ACCESS_DENIED)),
+        Verdict::Denied => Err(Stop::Status(Status::ACCESS_DENIED)),
+        Verdict::MustDisconnect(holder) => Ok(Change::Remove(Removal {
+            opening: *o,
+            victim: holder,
+        })),
     }
 }
 
-/// What an open of an interface that is there ends with. Its agent and controller are live or 0.
-fn open_by_records(o: &Opening, interface: u64, w: &World) -> Result<Change, Stop>
-    ensures { result ≡ open_by_records o.now.handle o.now.guid o.now.out o.now.agent o.now.controller o.now.attr interface w.now.now }
+/// What an open of an interface that is there ends with. The agent and the controller are live or 0.
+fn open_by_records(
+    o: &Opening,
+    agent: u64,
+    controller: u64,
+    interface: u64,
+    w: &World,
+) -> Result<Change, Stop>
+    ensures { result ≡ open_by_records o.now agent controller interface w.now.now }
 {
-    if o.agent == 0 {
+    if agent == 0 {
         return Ok(Change::Store {
             out: out_of(o.attr.bits(), o.out),
             value: interface,
@@ -159,13 +167,13 @@ fn open_by_records(o: &Opening, interface: u64, w: &World) -> Result<Change, Sto
     }
     let verdict = w
         .entries()
-        .judged(o.handle, o.guid, o.agent, o.controller, o.attr);
-    change_for_verdict(verdict, o, interface)
+        .judged(o.handle, o.guid, agent, controller, o.attr);
+    change_for_verdict(verdict, o, agent, controller, interface)
 }
 
-/// What an open ends with, by the interface that is found. Its agent and controller are as they were given.
+/// What an open ends with, by the interface that is found.
 fn open_by_interface(found: Option<(u64, Handle)>, o: &Opening, w: &World) -> Result<Change, Stop>
-    ensures { result ≡ open_by_interface found o.now.handle o.now.guid o.now.out o.now.agent o.now.controller o.now.attr w.now.now }
+    ensures { result ≡ open_by_interface found o.now w.now.now }
 {
     let Some((interface, _)) = found else {
         return Ok(Change::Store {
@@ -174,18 +182,12 @@ fn open_by_interface(found: Option<(u64, Handle)>, o: &Opening, w: &World) -> Re
             status: Status::UNSUPPORTED,
         });
     };
-    let live = Opening {
-        handle: o.handle,
-        guid: o.guid,
-        out: o.out,
-        agent: live_or_zero(o.agent, w),
-        controller: live_or_zero(o.controller, w),
-        attr: o.attr,
-    };
-    open_by_records(&live, interface, w)
+    let agent = live_or_zero(o.agent, w);
+    let controller = live_or_zero(o.controller, w);
+    open_by_records(o, agent, controller, interface, w)
 }
 
-/// OpenProtocol.
+/// OpenProtocol. If a driver is in the way, the service goes on to disconnect it.
 ///
 /// # Errors
 ///

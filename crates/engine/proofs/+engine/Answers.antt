@@ -1,6 +1,7 @@
 use Rattle.std.proofs.Common.{◌≡◌, ◌<◌, Some, sym, ◌∙◌, arith, rules, false, nat_eq, nat_lt}
 use Rattle.std.proofs.lemmas.Bool.Decides.{nat_tests}
 use Rattle.fw_types.specs.declared.limits.TheConstants.{CALL_PRICE}
+use Rattle.fw_types.specs.declared.status.TheConstants.Status.{SUCCESS}
 use Rattle.guest_memory.specs.declared.address_map.TheConstants.{EXIT}
 use Rattle.driver_model.specs.Moves.{changed, pays}
 use Rattle.driver_model.specs.Levels.{level_with}
@@ -8,6 +9,7 @@ use Rattle.engine.specs.AtLevel.{level_at, level_below}
 use Rattle.engine.proofs.Searches.{asked_all, asked_no, asked_yes, visited_all, visited_next}
 use Rattle.engine.proofs.Stops.{disconnected_is, turns_all, turns_next}
 use Rattle.engine.proofs.Turns.{through, thunk_is, thunk_nests, turn_taken}
+use Rattle.engine.proofs.Uninstalls.{each_all, each_ends, each_next, refused, succeeded}
 use Rattle.engine.proofs.+engine.Goals as goal
 
 -- ---- driver calls
@@ -113,3 +115,31 @@ disconnection::disconnect_in_event-returns-clause-now t c =
     (disconnected_is c.args.settings.now c.args.room c.args.scope c.args.d.now c.in-Some.controller (Some c.deref.result.now) c.args.world.now.now (omega (arith, c.if-room-eq0.false))
     (sym c.controller_of.ensures ∙ c.in-Some.is) (rw (c.deref.ensures.value) (rw (c.in-Some-2.is) at c.in_ok-agents.ensures)))
     c.stop_drivers.ensures.now
+
+-- ---- uninstalls
+
+pub uninstallation::uninstall_each-returns-then-ne-clause-now : goal.uninstallation::uninstall_each-returns-then-ne-clause-now
+uninstallation::uninstall_each-returns-then-ne-clause-now t c =
+    sym c.loop-i.invariant.rest
+    ∙ each_ends c.args.settings.now (level_below c.args.settings.now c.args.room) c.args.scope c.args.interfaces.now c.loop-i.i-index c.i-item.result c.loop-i.world.now c.uninstall.new.world.now c.in_ok-status.status
+    c.loop-i-test.true c.i-item.is c.in_ok-status.ensures.now
+    (refused (nat_eq c.in_ok-status.status.0 SUCCESS.0) c.ne.result c.ne.ensures c.if-ne.true)
+
+pub uninstallation::uninstall_each-loop-i-preserved : goal.uninstallation::uninstall_each-loop-i-preserved
+uninstallation::uninstall_each-loop-i-preserved t c = record {
+  rest =
+      sym (each_next c.args.settings.now (level_below c.args.settings.now c.args.room) c.args.scope c.args.interfaces.now c.loop-i.i-index c.i-item.result c.loop-i.world.now c.uninstall.new.world.now c.in_ok-status.status
+      c.loop-i-test.true c.i-item.is c.in_ok-status.ensures.now
+      (succeeded (nat_eq c.in_ok-status.status.0 SUCCESS.0) c.ne.result c.ne.ensures c.if-ne.false))
+      ∙ c.loop-i.invariant.rest;
+  marks = c.in_ok-status.ensures.marks ∙ c.loop-i.invariant.marks;
+  stacks = c.in_ok-status.ensures.stacks ∙ c.loop-i.invariant.stacks;
+  units = omega (arith, c.in_ok-status.ensures.units, c.loop-i.invariant.units);
+  events = omega (arith, c.in_ok-status.ensures.events, c.loop-i.invariant.events);
+}
+
+pub uninstallation::uninstall_each-returns-clause-now : goal.uninstallation::uninstall_each-returns-clause-now
+uninstallation::uninstall_each-returns-clause-now t c = sym c.loop-i.invariant.rest ∙ each_all _ _ _ _ _ _ c.loop-i-test.false
+
+pub uninstallation::uninstall_many-mark-requires : goal.uninstallation::uninstall_many-mark-requires
+uninstallation::uninstall_many-mark-requires t c = (c.marks_suffice.ensures.spare c.args.room c.args.world.now.now.soft c.args.world.now.marks c.requires.marks).1

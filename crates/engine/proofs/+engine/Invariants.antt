@@ -4,6 +4,7 @@ use Rattle.world_model.specs.Marks.{stacks}
 use Rattle.driver_model.specs.Moves.{plain}
 use Rattle.driver_model.specs.Connect.{asked, children_visited, search}
 use Rattle.driver_model.specs.Disconnect.{stop_turns}
+use Rattle.driver_model.specs.UninstallWithReconnection.{each_uninstalled}
 use Rattle.driver_model.specs.GuestRun.{run}
 use Rattle.driver_model.specs.Levels.{level_with}
 use Rattle.engine.specs.AtLevel.{level_at, level_below}
@@ -32,6 +33,27 @@ decreases-connection::visit_children l = 32 * l.room + 4
 
 abbrev pub decreases-connection::connect_children : goal.decreases-connection::connect_children
 decreases-connection::connect_children l = 32 * l.room + 5
+
+abbrev pub decreases-removal::remove : goal.decreases-removal::remove
+decreases-removal::remove l = 32 * l.room + 3
+
+abbrev pub decreases-uninstallation::release : goal.decreases-uninstallation::release
+decreases-uninstallation::release l = 32 * l.room + 3
+
+abbrev pub decreases-uninstallation::take_away : goal.decreases-uninstallation::take_away
+decreases-uninstallation::take_away l = 32 * l.room + 3
+
+abbrev pub decreases-uninstallation::uninstall_released : goal.decreases-uninstallation::uninstall_released
+decreases-uninstallation::uninstall_released l = 32 * l.room + 4
+
+abbrev pub decreases-uninstallation::uninstall : goal.decreases-uninstallation::uninstall
+decreases-uninstallation::uninstall l = 32 * l.room + 5
+
+abbrev pub decreases-uninstallation::uninstall_each : goal.decreases-uninstallation::uninstall_each
+decreases-uninstallation::uninstall_each l = 32 * l.room + 6
+
+abbrev pub decreases-uninstallation::uninstall_many : goal.decreases-uninstallation::uninstall_many
+decreases-uninstallation::uninstall_many l = 32 * l.room + 7
 
 abbrev pub decreases-native_call::reenter : goal.decreases-native_call::reenter
 decreases-native_call::reenter l = 32 * l.room + 8
@@ -141,6 +163,17 @@ invariant-disconnection::stop_drivers-loop-agent l = record {
   rest :
       stop_turns plain (level_at l.settings l.room) l.scope l.d (drop l.agent-index l.agents) (l.failed, l.stopped.items) l.world.now
       ≡ stop_turns plain (level_at l.fn.settings l.fn.room) l.fn.scope l.fn.d l.fn.agents (false, []) l.fn.world.now;
+  marks : l.world.marks ≡ l.fn.world.marks;
+  stacks : stacks l.world.now.soft ≡ stacks l.fn.world.now.soft;
+  units : l.world.now.hard.units ≤ l.fn.world.now.hard.units;
+  events : length l.fn.world.now.hard.events ≤ length l.world.now.hard.events;
+}
+
+abbrev pub invariant-uninstallation::uninstall_each-loop-i : goal.invariant-uninstallation::uninstall_each-loop-i
+invariant-uninstallation::uninstall_each-loop-i l = record {
+  rest :
+      each_uninstalled plain l.settings (level_below l.settings l.room) l.scope (drop l.i-index l.interfaces) l.world.now
+      ≡ each_uninstalled plain l.fn.settings (level_below l.fn.settings l.fn.room) l.fn.scope l.fn.interfaces l.fn.world.now;
   marks : l.world.marks ≡ l.fn.world.marks;
   stacks : stacks l.world.now.soft ≡ stacks l.fn.world.now.soft;
   units : l.world.now.hard.units ≤ l.fn.world.now.hard.units;

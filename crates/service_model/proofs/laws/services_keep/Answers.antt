@@ -9,11 +9,10 @@ returns-clause-fixed_segments c =
       allots = c.changes_keep.ensures.allotting;
       frees = c.changes_keep.ensures.freeing;
       installs = c.changes_keep.ensures.installing;
-      uninstalls = c.changes_keep.ensures.uninstalling;
       enters = c.changes_keep.ensures.entering;
       leaves = c.changes_keep.ensures.leaving;
     } in
-    let ground : Ground = record { keeps = kept-by changes; fits = c.segments_fit.ensures.block; puts = c.puts_leave_writable.ensures; lasting = c.images_do_not_last.ensures } in
+    let ground : Ground = record { keeps = kept-by changes; fits = c.segments_fit.ensures.block; puts = c.puts_leave_writable.ensures } in
     fixed-stay c.fixed_segments_stay.ensures.putting c.fixed_segments_stay.ensures.mapping ground c.rows_are_allowed.ensures
 
 pub returns-clause-stacks : goal.returns-clause-stacks
@@ -24,11 +23,10 @@ returns-clause-stacks c =
       allots = c.changes_keep.ensures.allotting;
       frees = c.changes_keep.ensures.freeing;
       installs = c.changes_keep.ensures.installing;
-      uninstalls = c.changes_keep.ensures.uninstalling;
       enters = c.changes_keep.ensures.entering;
       leaves = c.changes_keep.ensures.leaving;
     } in
-    let ground : Ground = record { keeps = kept-by changes; fits = c.segments_fit.ensures.block; puts = c.puts_leave_writable.ensures; lasting = c.images_do_not_last.ensures } in
+    let ground : Ground = record { keeps = kept-by changes; fits = c.segments_fit.ensures.block; puts = c.puts_leave_writable.ensures } in
     stacks-stay c.stacks_stand.ensures.putting c.stacks_stand.ensures.allotting c.stacks_stand.ensures.freeing ground c.rows_are_allowed.ensures
 
 pub returns-clause-kept : goal.returns-clause-kept
@@ -39,9 +37,8 @@ returns-clause-kept c =
       allots = c.changes_keep.ensures.allotting;
       frees = c.changes_keep.ensures.freeing;
       installs = c.changes_keep.ensures.installing;
-      uninstalls = c.changes_keep.ensures.uninstalling;
       enters = c.changes_keep.ensures.entering;
       leaves = c.changes_keep.ensures.leaving;
     } in
-    let ground : Ground = record { keeps = kept-by changes; fits = c.segments_fit.ensures.block; puts = c.puts_leave_writable.ensures; lasting = c.images_do_not_last.ensures } in
+    let ground : Ground = record { keeps = kept-by changes; fits = c.segments_fit.ensures.block; puts = c.puts_leave_writable.ensures } in
     kept-stays ground c.rows_are_allowed.ensures

@@ -1,0 +1,135 @@
+//! What the uninstall of an interface looks at and removes, for a driver (UEFI 2.8, 7.3:
+//! UninstallProtocolInterface and UninstallMultipleProtocolInterfaces).
+ghost use Rattle.std.specs.Prelude.{◌≡◌, ◌<◌, IfOk, IfSome, None, OnOk, Some, false, find, if◌then◌else◌, is_ok, option_map, true};
+ghost use Rattle.open_records.specs.Managing.{is_managing};
+ghost use Rattle.open_records.specs.declared.open_record.Rec.{Rec as RecValue};
+ghost use Rattle.world_model.specs.Interfaces.{is_lasting, uninstall_answer};
+ghost use Rattle.world_model.specs.Marks.{depth, marked_stacks, older_marks, put_back, stacks};
+ghost use Rattle.driver_model.specs.Moves.{changed, plain, uninstalls};
+ghost use Rattle.driver_model.specs.UninstallWithReconnection.{ADriver, all_or_none, interface_on, is_first_there, is_kept_from, is_still_there, manager_on};
+
+use fw_types::{Attr, Guid, Handle, OutOfMemory, Status};
+use fw_world::{Mark, World};
+use handle_db::DbRefusal;
+use open_records::Rec;
+use service_model::HandleInterface;
+use service_model::laws::images_do_not_last;
+
+/// Whether the handle has the interface, whoever owns it.
+pub fn is_first_there(world: &World, i: &HandleInterface) -> bool
+    ensures { result ≡ is_first_there ADriver i.now.interface (interface_on i.now world.now.now.soft) }
+{
+    match world.db().interface(i.handle, i.guid) {
+        None => false,
+        Some((address, _)) => address == i.interface,
+    }
+}
+
+/// Whether the firmware owns the interface, so that no driver may uninstall it.
+pub fn is_kept_from_drivers(world: &World, i: &HandleInterface) -> bool
+    ensures { result ≡ is_kept_from ADriver (interface_on i.now world.now.now.soft) }
+{
+    match world.db().interface(i.handle, i.guid) {
+        None => false,
+        Some((_, owner)) => owner == Handle::firmware(),
+    }
+}
+
+/// Whether the handle still has the interface, and the firmware does not own it.
+fn is_still_there(world: &World, i: &HandleInterface) -> bool
+    ensures { result ≡ is_still_there ADriver i.now.interface (interface_on i.now world.now.now.soft) }
+{
+    match world.db().interface(i.handle, i.guid) {
+        None => false,
+        Some((address, owner)) => address == i.interface && owner != Handle::firmware(),
+    }
+}
+
+/// The handle of the interface, if it still has it, and the firmware does not own it.
+pub fn handle_to_clear(world: &World, i: &HandleInterface) -> Option<Handle>
+    ensures there { result ≡
+        (if is_still_there ADriver i.now.interface (interface_on i.now world.now.now.soft)
+        then Some i.now.handle else None) }
+    ensures same { IfSome result (λ handle. i.now.handle ≡ handle) }
+    ensures lasting { IfSome result (λ handle.
+        is_lasting handle i.now.guid world.now.now.soft ≡ false) }
+    ensures answer { IfSome result (λ handle.
+        is_ok (uninstall_answer handle i.now.guid world.now.now.soft) ≡ true) }
+{
+    images_do_not_last();
+    world.is_kept();
+    if is_still_there(world, i) {
+        Some(i.handle)
+    } else {
+        None
+    }
+}
+
+/// The agent of the first of these records that has BY_DRIVER.
+fn first_manager(records: &[Rec]) -> Option<u64>
+    ensures { option_map (λ (rec : RecValue). rec.agent) (find is_managing records.now) ≡ result }
+{
+    for rec in records {
+        if rec.attr.has_bit_of(Attr::BY_DRIVER) {
+            return Some(rec.agent);
+        }
+    }
+    None
+}
+
+/// The driver that manages the handle by the interface, if one does.
+///
+/// # Errors
+///
+/// `OutOfMemory` if there is no memory for the list of the records.
+pub fn manager_on(world: &World, i: &HandleInterface) -> Result<Option<u64>, OutOfMemory>
+    ensures { IfOk result (λ agent. manager_on i.now world.now.now.soft ≡ agent) }
+{
+    let records = world.entries().list(i.handle, i.guid)?;
+    Ok(first_manager(&records))
+}
+
+/// Removes an interface of a handle that has it, with its records.
+///
+/// # Errors
+///
+/// `OutOfMemory` if there is no memory.
+pub fn remove_interface(world: &mut World, handle: Handle, guid: Guid) -> Result<(), OutOfMemory>
+    requires lasting { is_lasting handle guid world.old.now.soft ≡ false }
+    requires answer { is_ok (uninstall_answer handle guid world.old.now.soft) ≡ true }
+    ensures now { OnOk result (changed (uninstalls handle guid) world.old.now ≡ world.new.now) }
+    ensures marks { OnOk result (world.new.marks ≡ world.old.marks) }
+    ensures stacks { OnOk result (stacks world.new.now.soft ≡ stacks world.old.now.soft) }
+    ensures hard { OnOk result (world.new.now.hard ≡ world.old.now.hard) }
+{
+    match world.uninstall(handle, guid) {
+        Ok(()) => Ok(()),
+        Err(DbRefusal::OutOfMemory) => Err(OutOfMemory),
+        Err(_) => unreachable!(),
+    }
+}
+
+/// Keeps what several uninstalls did if all succeeded, or puts the soft part back that their mark
+/// keeps.
+///
+/// # Errors
+///
+/// `OutOfMemory` if there is no memory for what is put back.
+pub fn settle_all(world: &mut World, mark: Mark, all: bool) -> Result<Status, OutOfMemory>
+    requires newest { mark ≡ depth world.old }
+    requires stacks { stacks world.old.now.soft ≡ marked_stacks world.old }
+    requires open { 0 < depth world.old }
+    ensures now { IfOk result (λ status.
+        all_or_none plain (put_back world.old.marks world.old.now).soft (all, world.old.now)
+        ≡ (status, world.new.now)) }
+    ensures marks { OnOk result (world.new.marks ≡ older_marks world.old.marks) }
+    ensures stacks { OnOk result (stacks world.new.now.soft ≡ stacks world.old.now.soft) }
+    ensures hard { OnOk result (world.new.now.hard ≡ world.old.now.hard) }
+{
+    if all {
+        world.commit(mark);
+        return Ok(Status::SUCCESS);
+    }
+    world.rollback(mark)?;
+    Ok(Status::INVALID_PARAMETER)
+}

@@ -1,0 +1,3 @@
+; The place of an interface that is opened: 9 until one is stored.
+interface:
+        .byte 9, 0, 0, 0, 0, 0, 0, 0

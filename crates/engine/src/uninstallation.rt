@@ -1,0 +1,232 @@
+//! UninstallProtocolInterface and UninstallMultipleProtocolInterfaces of interfaces that may be in use
+//! (UEFI 2.8, 7.3).
+ghost use Rattle.std.specs.Prelude.{◌≡◌, ◌≤◌, IfOk, OnOk, is_ok, length, true, false};
+ghost use Rattle.fw_types.specs.declared.limits.TheConstants.{MOST_LEVELS as most_levels};
+ghost use Rattle.world_model.specs.Interfaces.{is_lasting, uninstall_answer};
+ghost use Rattle.world_model.specs.Levels.{has_marks, is_free};
+ghost use Rattle.world_model.specs.Marks.{stacks};
+ghost use Rattle.driver_model.specs.Moves.{plain};
+ghost use Rattle.driver_model.specs.UninstallWithReconnection.{ADriver, after_release, each_uninstalled, many_uninstalled, manager_on as manager_value, released, taken_away, uninstalled};
+ghost use Rattle.engine.specs.AtLevel.{level_below};
+ghost use Rattle.bind_parts.specs.Events.{NoFewerEvents};
+
+use crate::connection::connect;
+use crate::disconnection::disconnect;
+use bind_parts::{
+    handle_to_clear, is_first_there, is_kept_from_drivers, is_passed_on, manager_on,
+    remove_interface, settle_all,
+};
+use driver_model::{Connection, Disconnection, Scope, Settings};
+use fw_types::{Handle, OutOfMemory, Status};
+use fw_world::World;
+use service_model::HandleInterface;
+use world_model::laws::{levels_are_free, marks_suffice};
+
+/// Uninstalls an interface, for a driver. The answer is the first of these that applies: NOT_FOUND if the
+/// handle does not have the interface; ACCESS_DENIED if the firmware owns it; OUT_OF_RESOURCES or
+/// ABORTED if the disconnect of the driver that manages the handle by it answers that; NOT_FOUND if
+/// the handle does not have the interface after it; ACCESS_DENIED if it is still open, and then the
+/// handle is connected again; and otherwise SUCCESS.
+///
+/// # Errors
+///
+/// `OutOfMemory` if there is no memory for what the drivers do, or for a list of records.
+#[cycle(engine)]
+#[tactic(auto, unfolding(driver_model::specs::UninstallWithReconnection::uninstalled))]
+pub fn uninstall(
+    world: &mut World,
+    settings: &Settings,
+    room: u8,
+    scope: Scope,
+    i: &HandleInterface,
+) -> Result<Status, OutOfMemory>
+    requires room { room ≤ most_levels }
+    requires free { is_free room (stacks world.old.now.soft) world.old.marks ≡ true }
+    requires marks { has_marks 0 room world.old.marks ≡ true }
+    ensures now { IfOk result (λ status.
+        uninstalled plain settings.now (level_below settings.now room) scope ADriver i.now
+        world.old.now
+        ≡ (status, world.new.now)) }
+    ensures marks { OnOk result (world.new.marks ≡ world.old.marks) }
+    ensures stacks { OnOk result (stacks world.new.now.soft ≡ stacks world.old.now.soft) }
+    ensures units { OnOk result (world.new.now.hard.units ≤ world.old.now.hard.units) }
+    ensures events { OnOk result (NoFewerEvents world.old.now world.new.now) }
+{
+    if !is_first_there(world, i) {
+        return Ok(Status::NOT_FOUND);
+    }
+    if is_kept_from_drivers(world, i) {
+        return Ok(Status::ACCESS_DENIED);
+    }
+    let status = release(world, settings, room, scope, i)?;
+    uninstall_released(world, settings, room, scope, i, status)
+}
+
+/// Disconnects the driver that manages the handle by an interface, if one does.
+#[cycle(engine)]
+fn release(
+    world: &mut World,
+    settings: &Settings,
+    room: u8,
+    scope: Scope,
+    i: &HandleInterface,
+) -> Result<Status, OutOfMemory>
+    requires room { room ≤ most_levels }
+    requires free { is_free room (stacks world.old.now.soft) world.old.marks ≡ true }
+    requires marks { has_marks 0 room world.old.marks ≡ true }
+    ensures now { IfOk result (λ status.
+        released plain (level_below settings.now room) scope i.now
+        (manager_value i.now world.old.now.soft) world.old.now
+        ≡ (status, world.new.now)) }
+    ensures marks { OnOk result (world.new.marks ≡ world.old.marks) }
+    ensures stacks { OnOk result (stacks world.new.now.soft ≡ stacks world.old.now.soft) }
+    ensures units { OnOk result (world.new.now.hard.units ≤ world.old.now.hard.units) }
+    ensures events { OnOk result (NoFewerEvents world.old.now world.new.now) }
+{
+    let Some(agent) = manager_on(world, i)? else {
+        return Ok(Status::SUCCESS);
+    };
+    let d = Disconnection {
+        controller: i.handle.get(),
+        driver: agent,
+        child: 0,
+    };
+    disconnect(world, settings, room, scope, &d)
+}
+
+/// Uninstalls an interface if it is still there, after the disconnect of its driver answered a status.
+#[cycle(engine)]
+#[tactic(auto, unfolding(driver_model::specs::UninstallWithReconnection::after_release))]
+fn uninstall_released(
+    world: &mut World,
+    settings: &Settings,
+    room: u8,
+    scope: Scope,
+    i: &HandleInterface,
+    status: Status,
+) -> Result<Status, OutOfMemory>
+    requires room { room ≤ most_levels }
+    requires free { is_free room (stacks world.old.now.soft) world.old.marks ≡ true }
+    requires marks { has_marks 0 room world.old.marks ≡ true }
+    ensures now { IfOk result (λ last.
+        after_release plain settings.now (level_below settings.now room) scope ADriver i.now
+        (status, world.old.now)
+        ≡ (last, world.new.now)) }
+    ensures marks { OnOk result (world.new.marks ≡ world.old.marks) }
+    ensures stacks { OnOk result (stacks world.new.now.soft ≡ stacks world.old.now.soft) }
+    ensures units { OnOk result (world.new.now.hard.units ≤ world.old.now.hard.units) }
+    ensures events { OnOk result (NoFewerEvents world.old.now world.new.now) }
+{
+    if is_passed_on(status) {
+        return Ok(status);
+    }
+    let Some(handle) = handle_to_clear(world, i) else {
+        return Ok(Status::NOT_FOUND);
+    };
+    world.drop_weak(handle, i.guid)?;
+    take_away(world, settings, room, scope, handle, i)
+}
+
+/// Removes an interface on which no record is left. If one is left, the handle is connected again.
+#[cycle(engine)]
+#[tactic(auto, unfolding(driver_model::specs::UninstallWithReconnection::taken_away))]
+fn take_away(
+    world: &mut World,
+    settings: &Settings,
+    room: u8,
+    scope: Scope,
+    handle: Handle,
+    i: &HandleInterface,
+) -> Result<Status, OutOfMemory>
+    requires room { room ≤ most_levels }
+    requires free { is_free room (stacks world.old.now.soft) world.old.marks ≡ true }
+    requires marks { has_marks 0 room world.old.marks ≡ true }
+    requires same { i.now.handle ≡ handle }
+    requires lasting { is_lasting handle i.now.guid world.old.now.soft ≡ false }
+    requires answer { is_ok (uninstall_answer handle i.now.guid world.old.now.soft) ≡ true }
+    ensures now { IfOk result (λ status.
+        taken_away plain settings.now (level_below settings.now room) scope i.now world.old.now
+        ≡ (status, world.new.now)) }
+    ensures marks { OnOk result (world.new.marks ≡ world.old.marks) }
+    ensures stacks { OnOk result (stacks world.new.now.soft ≡ stacks world.old.now.soft) }
+    ensures units { OnOk result (world.new.now.hard.units ≤ world.old.now.hard.units) }
+    ensures events { OnOk result (NoFewerEvents world.old.now world.new.now) }
+{
+    let records = world.entries().list(handle, i.guid)?;
+    if records.is_empty() {
+        remove_interface(world, handle, i.guid)?;
+        return Ok(Status::SUCCESS);
+    }
+    let c = Connection {
+        controller: handle.get(),
+        path: 0,
+        at_end: false,
+        recursive: true,
+    };
+    connect(world, settings, room, scope, &c, &[])?;
+    Ok(Status::ACCESS_DENIED)
+}
+
+/// Uninstalls interfaces one after the other, as long as each succeeds. The answer is whether all did.
+#[cycle(engine)]
+fn uninstall_each(
+    world: &mut World,
+    settings: &Settings,
+    room: u8,
+    scope: Scope,
+    interfaces: &[HandleInterface],
+) -> Result<bool, OutOfMemory>
+    requires room { room ≤ most_levels }
+    requires free { is_free room (stacks world.old.now.soft) world.old.marks ≡ true }
+    requires marks { has_marks 0 room world.old.marks ≡ true }
+    ensures now { IfOk result (λ all.
+        each_uninstalled plain settings.now (level_below settings.now room) scope interfaces.now
+        world.old.now
+        ≡ (all, world.new.now)) }
+    ensures marks { OnOk result (world.new.marks ≡ world.old.marks) }
+    ensures stacks { OnOk result (stacks world.new.now.soft ≡ stacks world.old.now.soft) }
+    ensures units { OnOk result (world.new.now.hard.units ≤ world.old.now.hard.units) }
+    ensures events { OnOk result (NoFewerEvents world.old.now world.new.now) }
+{
+    for i in interfaces {
+        let status = uninstall(world, settings, room, scope, i)?;
+        if status != Status::SUCCESS {
+            return Ok(false);
+        }
+    }
+    Ok(true)
+}
+
+/// Uninstalls all interfaces of a list, for a driver, and answers SUCCESS; or leaves the soft part as it was,
+/// and answers INVALID_PARAMETER.
+///
+/// # Errors
+///
+/// `OutOfMemory` if there is no memory for what the drivers do, or for a copy of the soft part.
+#[cycle(engine)]
+#[tactic(auto, unfolding(driver_model::specs::UninstallWithReconnection::many_uninstalled))]
+pub fn uninstall_many(
+    world: &mut World,
+    settings: &Settings,
+    room: u8,
+    scope: Scope,
+    interfaces: &[HandleInterface],
+) -> Result<Status, OutOfMemory>
+    requires room { room ≤ most_levels }
+    requires free { is_free room (stacks world.old.now.soft) world.old.marks ≡ true }
+    requires marks { has_marks 2 room world.old.marks ≡ true }
+    ensures now { IfOk result (λ status.
+        many_uninstalled plain settings.now (level_below settings.now room) scope interfaces.now
+        world.old.now
+        ≡ (status, world.new.now)) }
+    ensures marks { OnOk result (world.new.marks ≡ world.old.marks) }
+    ensures stacks { OnOk result (stacks world.new.now.soft ≡ stacks world.old.now.soft) }
+    ensures units { OnOk result (world.new.now.hard.units ≤ world.old.now.hard.units) }
+    ensures events { OnOk result (NoFewerEvents world.old.now world.new.now) }
+{
+    levels_are_free();
+    marks_suffice();
+    let mark = world.mark()?;
+    let all = uninstall_each(world, settings, room, scope, interfaces)?;
+    settle_all(world, mark, all)
+}

@@ -1,0 +1,10 @@
+use Rattle.std.proofs.Common.{◌≡◌, ◌-◌}
+use Rattle.std.specs.List.{range_with_len}
+use Rattle.service_model.specs.Words.{each}
+use Rattle.service_model.specs.Many.{pair_installed_on}
+use Rattle.service_rows.proofs.many.all_installed_on.Given as goal
+
+-- the rest from here is the whole from the start
+abbrev pub invariant-loop-i : goal.invariant-loop-i
+invariant-loop-i l =
+    each (pair_installed_on l.handle l.list l.w.now) (range_with_len l.i (l.count - l.i)) ≡ each (pair_installed_on l.handle l.list l.w.now) (range_with_len 0 l.count)
