@@ -1,6 +1,5 @@
 -- The driver-model machine: what each command gives.
 use Rattle.std.specs.Prelude.{ℕ, ◌-◌, ◌++◌, Bool, true, false, not, nat_eq, filter, List, [], ◌∷◌, None, Some, if◌then◌else◌}
-use Rattle.fw_types.specs.declared.limits.TheConstants.{CALL_BUDGET, COMMAND_BUDGET}
 use Rattle.fw_types.specs.declared.status.Status.{Status}
 use Rattle.fw_types.specs.declared.status.TheConstants.Status.{INVALID_PARAMETER, LOAD_ERROR, NOT_FOUND, SUCCESS}
 use Rattle.fw_types.specs.declared.command.Command.{Command}
@@ -14,7 +13,6 @@ use Rattle.option_rom.specs.RomGrammar.{rom_in}
 use Rattle.handle_db.specs.Database.{is_live}
 use Rattle.world_model.specs.World.{State, on_hard}
 use Rattle.world_model.specs.Events.{command_begun, events_taken}
-use Rattle.world_model.specs.Opening.{opening}
 use Rattle.driver_model.specs.Moves.{plain}
 use Rattle.driver_model.specs.Connect.{connect}
 use Rattle.driver_model.specs.Disconnect.{disconnect}
@@ -29,14 +27,6 @@ use Rattle.bind_engine.specs.Dump.{dump_of}
 use Rattle.bind_engine.specs.Levels.{all_levels, loaded, outside}
 use Rattle.bind_engine.specs.Machine.{MachineView}
 use Rattle.bind_engine.specs.RomLoad.{is_rom, no_images, rom_status, with_images}
-
--- The machine at first: no image is loaded, the platform prefers no drivers, and the budgets are those of this firmware.
-abbrev pub booted : MachineView
-booted = record {
-  world = opening.now;
-  settings = record { platform = []; call_budget = CALL_BUDGET };
-  command_budget = COMMAND_BUDGET;
-}
 
 -- whether a command reads a file
 abbrev pub reads_file : Command → Bool

@@ -5,9 +5,11 @@ ghost use Rattle.fw_types.specs.declared.limits.TheConstants.{CALL_PRICE};
 ghost use Rattle.fw_shelf.specs.Faults.{Rose};
 ghost use Rattle.fw_shelf.specs.Shelf.{Files, file_of};
 ghost use Rattle.bind_engine.specs.declared.machine.ExecFault.TheVariants.{OutOfMemory as NoMemory};
-ghost use Rattle.bind_engine.specs.Commands.{begun, booted, budgets_set, command_connected, command_disconnected, database_dumped, exec, load_ending, platform_set, reads_file, reply_to, status_ending, without_units};
+ghost use Rattle.bind_engine.specs.Boot.{boot_notes, boot_reads, booted};
+ghost use Rattle.bind_engine.specs.Commands.{begun, budgets_set, command_connected, command_disconnected, database_dumped, exec, load_ending, platform_set, reads_file, reply_to, status_ending, without_units};
 ghost use Rattle.bind_engine.specs.Machine.{IsIdle, are_budgets_legal};
 
+use crate::boot::{BoardRoms, read_roms};
 use crate::connect::{connect, disconnect};
 use crate::dump::dump;
 use crate::ending::Ending;
@@ -16,9 +18,11 @@ use crate::settings::with_list;
 use driver_model::{Disconnection, Settings};
 use fw_shelf::Shelf;
 use fw_types::{
-    CALL_BUDGET, COMMAND_BUDGET, Command, DumpLine, OutOfMemory, PathArg, Reply, Rows, Status,
+    CALL_BUDGET, COMMAND_BUDGET, Command, DumpLine, OutOfMemory, PathArg, Reply, RomNote, Rows,
+    Status,
 };
 use fw_world::World;
+use pci_model::Board;
 use std::alloc::Global;
 use std::marker::Model;
 use thiserror::Error;
@@ -50,13 +54,13 @@ impl Model for Machine {
         × (are_budgets_legal machine.command_budget machine.settings.call_budget ≡ true) };
 }
 
-/// Why a command gave no reply. There is no machine after it then.
+/// Why a command gave no reply, or a boot no machine. There is no machine after it then.
 #[derive(Clone, Copy, Debug, PartialEq, Eq, Error)]
 pub enum ExecFault {
-    /// The shelf failed while the command read a file.
+    /// The shelf failed while a file was read.
     #[error("the shelf failed")]
     ShelfFailed,
-    /// There was no memory for what the command does.
+    /// There was no memory.
     #[error("out of memory")]
     OutOfMemory,
 }
@@ -117,27 +121,47 @@ fn reply_without_units(alloc: Global, status: Status, dump: Vec<DumpLine>) -> Re
 }
 
 impl Machine {
-    /// A machine in its opening state: the firmware has handle 1, the PCI bus driver handle 2, the
-    /// firmware's tables are mapped, and no image is loaded. The platform prefers no drivers. A
-    /// command may spend 4,194,304 units, and a driver call 1,048,576.
+    /// A machine in its opening state, on a board: the firmware has handle 1, the PCI bus driver
+    /// handle 2, and each root bridge one from 3 on. The firmware's tables are mapped, and no image
+    /// is loaded. A function whose option ROM a line of the board names has the bytes of that file.
+    /// The platform prefers no drivers. A command may spend 4,194,304 units, and a driver call
+    /// 1,048,576. Beside the machine there is a note for each file that is absent or has more than
+    /// 1,048,576 bytes, in the order of the lines.
     ///
     /// # Errors
     ///
-    /// `OutOfMemory` if there is no memory for the opening state.
-    pub fn boot(alloc: Global) -> Result<Machine, OutOfMemory>
-        ensures { IfOk result (λ machine. machine ≡ booted) }
+    /// - `ShelfFailed` only if a line of the board names a file, and only if the shelf failed in
+    ///   this call.
+    /// - `OutOfMemory` if there is no memory for the opening state, the files or the notes.
+    pub fn boot<F: Shelf>(
+        alloc: Global,
+        board: Board,
+        shelf: &mut F,
+    ) -> Result<(Machine, Vec<RomNote>), ExecFault>
+        ensures machine { (files : Files) → F.files shelf.old ≡ Some files → IfOk result
+            (λ boot. boot.0 ≡ booted files board) }
+        ensures notes { (files : Files) → F.files shelf.old ≡ Some files → IfOk result
+            (λ boot. boot.1.items ≡ boot_notes files board) }
+        ensures reads { IsErrOf result ExecFault.ShelfFailed → boot_reads board ≡ true }
+        ensures failed { IsErrOf result ExecFault.ShelfFailed
+            → Rose (F.faults shelf.old) (F.faults shelf.new) }
+        ensures same_files { F.files shelf.new ≡ F.files shelf.old }
+        ensures faults { F.faults shelf.old ≤ F.faults shelf.new }
+        ensures becomes { F.becomes shelf.old shelf.new }
     {
         rest_is_free();
         command_paths_fit();
+        let BoardRoms { roms, notes } = read_roms(alloc, &board, shelf)?;
         let settings = Settings {
             platform: Rows::of(Vec::new(alloc)),
             call_budget: CALL_BUDGET,
         };
-        Ok(Machine {
-            world: World::new(alloc)?,
+        let machine = Machine {
+            world: World::new(alloc, board, roms)?,
             settings,
             command_budget: COMMAND_BUDGET,
-        })
+        };
+        Ok((machine, notes))
     }
 
     /// `load`: loads the image or the option ROM in a file.

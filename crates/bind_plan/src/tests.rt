@@ -2,6 +2,7 @@ use crate::{BindingBlock, binding, order, stop_list};
 use fw_types::{Attr, Guid, Handle, Known, put_u32, put_u64};
 use fw_world::World;
 use guest_memory::SegKind;
+use pci_model::Board;
 use std::alloc::{AllocError, Global};
 use std::process::Abort;
 use std::test::Fail;
@@ -51,7 +52,7 @@ fn add_cut_driver(world: &mut World) -> Result<Handle, Fail> {
 /// the greatest one; with 8, of whose driver binding 47 bytes can be read; and with an image, 9. The
 /// drivers 4 and 6 are of image 9, 5 is of 8, and 2, the bus driver, is of 1.
 fn with_drivers(rt: &impl AllocGlobal) -> Result<World, Fail> {
-    let mut world = World::new(rt.alloc())?;
+    let mut world = World::new(rt.alloc(), Board::empty(rt.alloc()), Vec::new(rt.alloc()))?;
     let (disk, path) = (Guid::known(Known::PciIo), Guid::known(Known::DevicePath));
     let owner = Handle::firmware();
     let controller = world.install(None, disk, 0, owner)?;

@@ -205,7 +205,7 @@ ok_unless-ok : (fault : Option PathRefusal) (bytes child : List ℕ) → ok_unle
 ok_unless-ok None bytes child h = (refl, cc)
 ok_unless-ok (Some refusal) bytes child h = absurd cc
 
-all_after : (nodes : List (List ℕ)) (node : List ℕ) → All IsInnerNode nodes → IsInnerNode node → All IsInnerNode (nodes ++ node ∷ [])
+pub all_after : (nodes : List (List ℕ)) (node : List ℕ) → All IsInnerNode nodes → IsInnerNode node → All IsInnerNode (nodes ++ node ∷ [])
 all_after [] node all last = all_more node [] last all
 all_after (first ∷ nodes) node all last =
     all_more first (nodes ++ node ∷ []) (all 0 first (omega arith)) (all_after nodes node (λ k d h. all (suc k) d (omega arith)) last)

@@ -1,6 +1,7 @@
 -- Device paths (UEFI 2.8, 10.3: Device Path Nodes).
 use Rattle.std.specs.Prelude.{ℕ, zero, suc, List, [], ◌∷◌, ◌++◌, length, take, drop, slice_index, Bool, nat_eq, nat_lt, Option, Some, None, Result, Ok, Err, if◌then◌else◌}
 use Rattle.std.specs.List.{concat, starts_with}
+use Rattle.byteorder.specs.Endian.{little_bytes}
 use Rattle.fw_types.specs.Layout.{uint16_at}
 use Rattle.device_path.specs.declared.node.Node.{Node}
 use Rattle.device_path.specs.declared.refusal.PathRefusal.{PathRefusal}
@@ -57,6 +58,17 @@ path_within (suc most) bytes =
 unfoldable pub path_in : List ℕ → Path
 path_in bytes = path_within (length bytes) bytes
 
+-- ---- the path of a root bridge
+
+-- how the ACPI node of a PCI root bridge begins: its type, its sub-type, its length, and its _HID, which is
+-- PNP0A03 (10.3.3: ACPI Device Path)
+abbrev pub root_header : List ℕ
+root_header = 0x02 ∷ 0x01 ∷ 0x0C ∷ 0x00 ∷ 0xD0 ∷ 0x41 ∷ 0x03 ∷ 0x0A ∷ []
+
+-- the node of the root bridge with a _UID
+abbrev pub root_node : ℕ → List ℕ
+root_node uid = root_header ++ little_bytes 4 uid
+
 -- ---- one more node
 
 -- a PCI node (10.3.2.1: PCI Device Path)
@@ -66,6 +78,10 @@ pci_node device function = 0x01 ∷ 0x01 ∷ 0x06 ∷ 0x00 ∷ function ∷ devi
 -- the End node (10.3.1)
 abbrev pub end_node : List ℕ
 end_node = 0x7F ∷ 0xFF ∷ 0x04 ∷ 0x00 ∷ []
+
+-- the path of a root bridge: its node, and the end
+abbrev pub root_path : ℕ → List ℕ
+root_path uid = root_node uid ++ end_node
 
 -- bytes, unless a path is bad
 abbrev pub ok_unless : Option PathRefusal → List ℕ → Result (List ℕ) PathRefusal

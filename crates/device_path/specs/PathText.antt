@@ -3,7 +3,7 @@ use Rattle.std.specs.Prelude.{ℕ, List, [], ◌∷◌, ◌++◌, codes, slice_i
 use Rattle.std.specs.List.{filter_map, join_with_byte, list_any, starts_with}
 use Rattle.std.specs.Fmt.{digits}
 use Rattle.fw_types.specs.Layout.{uint32_at}
-use Rattle.device_path.specs.DevicePath.{Path, ok_unless}
+use Rattle.device_path.specs.DevicePath.{Path, ok_unless, root_header}
 use Rattle.device_path.specs.declared.refusal.PathRefusal.{PathRefusal}
 use Rattle.device_path.specs.declared.refusal.PathRefusal.TheVariants.{Unknown}
 use Rattle.device_path.specs.declared.known.KnownNode.{KnownNode}
@@ -14,7 +14,7 @@ use Rattle.device_path.specs.declared.known.KnownNode.TheVariants.{PciRoot, Pci}
 -- the ACPI node of a PCI root bridge, whose _HID is PNP0A03 (10.3.3: ACPI Device Path)
 abbrev pub is_pci_root : List ℕ → Bool
 is_pci_root node =
-    nat_eq (length node) 12 && starts_with nat_eq node (0x02 ∷ 0x01 ∷ 0x0C ∷ 0x00 ∷ 0xD0 ∷ 0x41 ∷ 0x03 ∷ 0x0A ∷ [])
+    nat_eq (length node) 12 && starts_with nat_eq node root_header
 
 -- a PCI node (10.3.2.1: PCI Device Path)
 abbrev pub is_pci : List ℕ → Bool

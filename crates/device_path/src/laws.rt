@@ -1,9 +1,9 @@
 //! Laws of device paths. Each is the contract of a function with no code.
-ghost use Rattle.std.specs.Prelude.{◌≡◌, ◌++◌, List, ℕ, [], ◌∷◌, None, Ok};
-ghost use Rattle.device_path.specs.DevicePath.{Path, path_in, pci_node, with_pci};
+ghost use Rattle.std.specs.Prelude.{◌≡◌, ◌++◌, ◌<◌, ◌^◌, List, ℕ, [], ◌∷◌, None, Ok};
+ghost use Rattle.device_path.specs.DevicePath.{Path, path_in, pci_node, root_node, root_path, with_pci};
 ghost use Rattle.device_path.specs.PathNodes.{IsPath, with_node};
 ghost use Rattle.device_path.specs.PathText.{known_text, text_of};
-ghost use Rattle.device_path.specs.declared.known.KnownNode.TheVariants.{Pci};
+ghost use Rattle.device_path.specs.declared.known.KnownNode.TheVariants.{Pci, PciRoot};
 
 /// Bytes are whole nodes in a row, none of which is the End node, and then the End node or a bad
 /// one. They are so in one way.
@@ -31,4 +31,13 @@ pub fn text_grows()
     ensures { (bytes child text : List ℕ) (device function : ℕ) →
         with_pci (path_in bytes) device function ≡ Ok child → text_of (path_in bytes) ≡ Ok text
         → text_of (path_in child) ≡ Ok (with_node text (known_text (Pci device function))) }
+{}
+
+/// The path of a root bridge has its ACPI node alone, and its text is that of the root bridge with
+/// the _UID.
+pub fn root_path_is_one_node()
+    ensures nodes { (uid : ℕ) →
+        path_in (root_path uid) ≡ record { nodes = root_node uid ∷ []; fault = None } }
+    ensures text { (uid : ℕ) → uid < 2 ^ 32
+        → text_of (path_in (root_path uid)) ≡ Ok (known_text (PciRoot uid)) }
 {}

@@ -1,5 +1,5 @@
 ghost use Rattle.std.specs.Prelude.{◌≡◌, ◌≤◌, ◌<◌, IfOk, IfSome, length};
-ghost use Rattle.device_path.specs.DevicePath.{path_in, with_pci};
+ghost use Rattle.device_path.specs.DevicePath.{path_in, root_path, with_pci};
 ghost use Rattle.device_path.specs.Steps.{AreNodesOf, GivesBytes, first_size};
 
 use crate::node::{is_end, node_at};
@@ -31,6 +31,17 @@ fn size_of_nodes(path: &[u8]) -> Result<usize, PathRefusal>
         rest = &rest[size..];
     }
     Ok(path.len() - rest.len())
+}
+
+/// The path of the PCI root bridge with a _UID: its ACPI node, whose _HID is PNP0A03, and an End
+/// node (UEFI 2.8, 10.3.3: ACPI Device Path). Takes no memory.
+pub fn root_path(uid: u32) -> [u8; 16]
+    ensures { result ≡ root_path uid }
+{
+    let [a, b, c, d] = uid.to_le_bytes();
+    [
+        0x02, 0x01, 0x0C, 0x00, 0xD0, 0x41, 0x03, 0x0A, a, b, c, d, 0x7F, 0xFF, 0x04, 0x00,
+    ]
 }
 
 /// A path with a PCI node (UEFI 2.8, 10.3.2.1: PCI Device Path) after its nodes, and then an End

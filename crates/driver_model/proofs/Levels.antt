@@ -69,7 +69,7 @@ unloads_stay settings room scope handle w lt can =
 pub rest_can_run : RestCanRun
 rest_can_run soft kept none = record {
   kept = kept;
-  free = rest_is_free (record { now = record { soft = soft; hard = record { units = 0; events = [] } }; marks = [] }) (record { no_stack = none; no_mark = refl });
+  free = rest_is_free (record { now = record { soft = soft; hard = record { units = 0; events = []; board = record { lines = []; devices = [] }; roms = [] } }; marks = [] }) (record { no_stack = none; no_mark = refl });
 }
 
 pub free_stays : FreeStays

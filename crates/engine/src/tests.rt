@@ -7,6 +7,7 @@ use crate::{connect, disconnect};
 use driver_model::{Connection, Disconnection, Scope, Settings};
 use fw_types::{CALL_BUDGET, Event, EventKind, MOST_LEVELS, Outcome, Rows, Status};
 use fw_world::World;
+use pci_model::Board;
 use std::alloc::Global;
 use std::test::Fail;
 use world_model::laws::rest_is_free;
@@ -19,7 +20,7 @@ fn opening_world(alloc: Global, units: u32) -> Result<World, Fail>
     ensures marks { IfOk result (λ world. has_marks 0 most_levels world.marks ≡ true) }
 {
     rest_is_free();
-    let mut world = World::new(alloc)?;
+    let mut world = World::new(alloc, Board::empty(alloc), Vec::new(alloc))?;
     world.begin_command(units);
     Ok(world)
 }

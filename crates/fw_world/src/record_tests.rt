@@ -6,6 +6,7 @@ use crate::World;
 use crate::tests::bytes_of;
 use fw_types::{Attr, BOOT_SERVICE_DRIVER, Guid, Handle, Known, OutOfMemory};
 use open_records::RecFault;
+use pci_model::Board;
 use std::process::Abort;
 use std::test::Fail;
 
@@ -44,7 +45,7 @@ fn open(world: &mut World, asked: Open) -> Result<bool, RecFault>
 /// A world with an image, and with a disk and its child, each with PCI I/O, the disk with a device
 /// path too. Their handles are 3, 4 and 5.
 fn with_disk(rt: &impl AllocGlobal) -> Result<(World, [Handle; 3]), Fail> {
-    let mut world = World::new(rt.alloc())?;
+    let mut world = World::new(rt.alloc(), Board::empty(rt.alloc()), Vec::new(rt.alloc()))?;
     let (pci, path) = (Guid::known(Known::PciIo), Guid::known(Known::DevicePath));
     let driver = world.add_image(bytes_of(rt, 0x40, 0x11)?, 0, BOOT_SERVICE_DRIVER, 0)?;
     let disk = world.install(None, pci, 0, driver)?;
@@ -138,7 +139,7 @@ fn leave_all(world: &mut World, handle: Handle, agent: u64) -> Result<u32, OutOf
 /// An open that is undone is entered again as the first one.
 #[test]
 fn undone_opens(rt: HostRuntime) -> Result<(), Fail> {
-    let mut world = World::new(rt.alloc())?;
+    let mut world = World::new(rt.alloc(), Board::empty(rt.alloc()), Vec::new(rt.alloc()))?;
     let pci = Guid::known(Known::PciIo);
     let disk = world.install(None, pci, 0, Handle::firmware())?;
     assert!(rt; open(&mut world, (3, Known::PciIo, (1, 0, 0x02)))?);

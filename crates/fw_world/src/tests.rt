@@ -7,6 +7,7 @@ use fw_types::{
     RUNTIME_DRIVER, Status,
 };
 use guest_memory::{GuestMem, SegKind};
+use pci_model::Board;
 use std::alloc::AllocError;
 use std::test::Fail;
 use world_model::laws::stacks_stand;
@@ -45,7 +46,7 @@ fn has_bytes(
 /// All bytes of the bus driver's binding.
 #[test]
 fn opening_binding(rt: HostRuntime) -> Result<(), Fail> {
-    let world = World::new(rt.alloc())?;
+    let world = World::new(rt.alloc(), Board::empty(rt.alloc()), Vec::new(rt.alloc()))?;
     let binding: [(usize, &[u8]); 6] = [
         // Supported, Start and Stop at 0x22000, 0x22008 and 0x22010
         (0, &[0, 0x20, 2]),
@@ -63,7 +64,7 @@ fn opening_binding(rt: HostRuntime) -> Result<(), Fail> {
 /// All bytes of the firmware's loaded image block.
 #[test]
 fn opening_image_block(rt: HostRuntime) -> Result<(), Fail> {
-    let world = World::new(rt.alloc())?;
+    let world = World::new(rt.alloc(), Board::empty(rt.alloc()), Vec::new(rt.alloc()))?;
     let firmware: [(usize, &[u8]); 4] = [
         (0, &[0, 0x10]),
         // the system table at 0x10000
@@ -79,7 +80,7 @@ fn opening_image_block(rt: HostRuntime) -> Result<(), Fail> {
 /// The handles of the opening state, and its numbers.
 #[test]
 fn opening_handles(rt: HostRuntime) -> Result<(), Fail> {
-    let world = World::new(rt.alloc())?;
+    let world = World::new(rt.alloc(), Board::empty(rt.alloc()), Vec::new(rt.alloc()))?;
     let firmware = Handle::firmware();
     let image = Guid::known(Known::LoadedImage);
     let binding = Guid::known(Known::DriverBinding);
@@ -101,7 +102,7 @@ fn opening_handles(rt: HostRuntime) -> Result<(), Fail> {
 /// A world with two images: 0x10001 bytes of a boot service driver, with its entry at offset 0x10,
 /// and 0x10000 of a runtime driver, from a device 3 and with the last byte as its entry.
 fn with_images(rt: &impl AllocGlobal) -> Result<(World, Handle), Fail> {
-    let mut world = World::new(rt.alloc())?;
+    let mut world = World::new(rt.alloc(), Board::empty(rt.alloc()), Vec::new(rt.alloc()))?;
     let first = world.add_image(bytes_of(rt, 0x1_0001, 0x11)?, 0x10, BOOT_SERVICE_DRIVER, 0)?;
     let _ = world.add_image(bytes_of(rt, 0x1_0000, 0x22)?, 0xffff, RUNTIME_DRIVER, 3)?;
     Ok((world, first))
@@ -166,7 +167,7 @@ const SIZES: [(usize, u64); 6] = [
 /// The addresses of blocks.
 #[test]
 fn block_addresses(rt: HostRuntime) -> Result<(), Fail> {
-    let mut world = World::new(rt.alloc())?;
+    let mut world = World::new(rt.alloc(), Board::empty(rt.alloc()), Vec::new(rt.alloc()))?;
     let _ = world.add_image(bytes_of(&rt, 0x40, 0)?, 0, BOOT_SERVICE_DRIVER, 0)?;
     for (size, at) in SIZES {
         assert_eq!(rt; world.allot(bytes_of(&rt, size, 0)?, SegKind::Pool), Ok(at));
@@ -183,7 +184,7 @@ fn block_addresses(rt: HostRuntime) -> Result<(), Fail> {
 /// nothing.
 #[test]
 fn most_bytes_of_blocks(rt: HostRuntime) -> Result<(), Fail> {
-    let mut world = World::new(rt.alloc())?;
+    let mut world = World::new(rt.alloc(), Board::empty(rt.alloc()), Vec::new(rt.alloc()))?;
     let most = bytes_of(&rt, 67_108_864 - 96, 0)?;
     assert_eq!(rt; world.allot(most, SegKind::Pool), Ok(0x1_0000_0000));
     let image = world.add_image(bytes_of(&rt, 1, 0)?, 0, BOOT_SERVICE_DRIVER, 0)?;
@@ -205,7 +206,7 @@ fn most_bytes_of_blocks(rt: HostRuntime) -> Result<(), Fail> {
 
 /// Two events, of which the second begins and ends inside the first.
 fn two_events(rt: &impl AllocGlobal) -> Result<Vec<Event>, Fail> {
-    let mut world = World::new(rt.alloc())?;
+    let mut world = World::new(rt.alloc(), Board::empty(rt.alloc()), Vec::new(rt.alloc()))?;
     world.begin_command(64);
     let first = world.begin_event(0, EventKind::Entry, 3, 0, 0)?;
     let second = world.begin_event(first, EventKind::Entry, 4, 5, 6)?;
@@ -236,7 +237,7 @@ fn events(rt: HostRuntime) -> Result<(), Fail> {
 /// A stack with its frame.
 #[test]
 fn stack_frame(rt: HostRuntime) -> Result<(), Fail> {
-    let mut world = World::new(rt.alloc())?;
+    let mut world = World::new(rt.alloc(), Board::empty(rt.alloc()), Vec::new(rt.alloc()))?;
     let slots = [1, 2, 3, 4, 5, 6, 7, 8, 9, 10, 11, 12, 13, 14, 15, 16];
     let cpu = world.push_stack(1, &slots, &[3, 0x0102_0304_0506_0708])?;
     assert_eq!(rt; cpu.r, [0x81_ff70, 0, 0, 0, 0, 0, 0, 0]);
@@ -259,7 +260,7 @@ fn stack_frame(rt: HostRuntime) -> Result<(), Fail> {
 /// A list of children beside a stack. They are removed together.
 #[test]
 fn list_of_children(rt: HostRuntime) -> Result<(), Fail> {
-    let mut world = World::new(rt.alloc())?;
+    let mut world = World::new(rt.alloc(), Board::empty(rt.alloc()), Vec::new(rt.alloc()))?;
     let _ = world.push_stack(1, &[0; 16], &[3, 0x0102_0304_0506_0708])?;
     let list: [(usize, &[u8]); 2] = [(0, &[3]), (8, &[8, 7, 6, 5, 4, 3, 2, 1])];
     assert!(rt; has_bytes(&rt, &world, 0xc2_0000, 16, &list)?);
@@ -323,7 +324,7 @@ fn reads(world: &World, at: u64, bytes: &[u8]) -> bool {
 /// Ranges in which bytes are put, and ranges in which they are not.
 #[test]
 fn ranges(rt: HostRuntime) -> Result<(), Fail> {
-    let mut world = World::new(rt.alloc())?;
+    let mut world = World::new(rt.alloc(), Board::empty(rt.alloc()), Vec::new(rt.alloc()))?;
     let _ = world.allot(bytes_of(&rt, 8, 0x11)?, SegKind::Pool)?;
     let puts: [(u64, &[u8], bool); 5] = [
         (0x1_0000_0002, &[1, 2, 3], true),

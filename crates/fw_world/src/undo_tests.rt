@@ -7,6 +7,7 @@ use crate::{World, WorldFault};
 use fw_types::{Guid, Handle, Known};
 use guest_memory::{GuestMem, MemRefusal, SegKind};
 use handle_db::DbRefusal;
+use pci_model::Board;
 use std::test::Fail;
 use world_model::laws::stacks_stand;
 
@@ -52,7 +53,7 @@ fn write_two(world: &mut World, at: u64, value: u64) -> Result<(), MemRefusal>
 /// A free and an uninstall, undone in the order of their marks. What was spent stays spent.
 #[test]
 fn undone(rt: HostRuntime) -> Result<(), Fail> {
-    let mut world = World::new(rt.alloc())?;
+    let mut world = World::new(rt.alloc(), Board::empty(rt.alloc()), Vec::new(rt.alloc()))?;
     let handle = world.install(None, Guid::known(Known::PciIo), 5, Handle::firmware())?;
     let block = allot_bytes(&mut world, bytes_of(&rt, 24, 0x11)?)?;
     world.begin_command(100);
@@ -85,7 +86,7 @@ fn undone(rt: HostRuntime) -> Result<(), Fail> {
 /// as it was.
 #[test]
 fn committed(rt: HostRuntime) -> Result<(), Fail> {
-    let mut world = World::new(rt.alloc())?;
+    let mut world = World::new(rt.alloc(), Board::empty(rt.alloc()), Vec::new(rt.alloc()))?;
     let outer = world.mark()?;
     let inner = world.mark()?;
     let block = allot_bytes(&mut world, bytes_of(&rt, 24, 0x11)?)?;

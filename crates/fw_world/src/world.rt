@@ -1,4 +1,4 @@
-ghost use Rattle.std.specs.Prelude.{◌≡◌, ◌+◌, ◌^◌, ◌<◌, ◌≤◌, [], false, true, nat_le, IfOk, OnOk, Ok, is_some, length, replicate, if◌then◌else◌};
+ghost use Rattle.std.specs.Prelude.{◌≡◌, ◌+◌, ◌^◌, ◌<◌, ◌≤◌, [], false, true, nat_le, IfOk, OnOk, Ok, is_some, length, option_copied, replicate, if◌then◌else◌};
 ghost use Rattle.guest_memory.specs.Segment.{is_block};
 ghost use Rattle.guest_memory.specs.GuestMemory.{bytes_of, is_readable, is_writable_range, put_bytes};
 ghost use Rattle.handle_db.specs.Database.{Gives as GivesDb, interface_of, is_live};
@@ -20,23 +20,32 @@ ghost use Rattle.world_model.specs.Marks.{committed, depth, marked_stacks, marke
 ghost use Rattle.world_model.specs.CommandPath.{has_no_path, path_cleared, path_room, path_set};
 ghost use Rattle.world_model.specs.Kept.{IsKept};
 ghost use Rattle.world_model.specs.Opening.{opening};
+ghost use Rattle.world_model.specs.Boards.{first_root, has_root_bridge_io, rom_of, roms_in, root_at, root_bus};
+ghost use Rattle.pci_model.specs.BoardLines.{functions};
+ghost use Rattle.std.specs.Borrow.{sem};
+ghost use Rattle.fw_world.specs.Lending.{LendsBoard};
 ghost use Rattle.soft_part.specs.Answers.{AsBefore, AsBeforeFull, AsBeforeRefusal};
 
 use crate::cap::Cap;
 use crate::mark::Mark;
 use ebc_machine::Cpu;
-use fw_types::{Attr, Event, EventKind, Guid, Handle, OutOfMemory, Outcome, Status};
+use fw_types::{Attr, Event, EventKind, Guid, Handle, Known, OutOfMemory, Outcome, Status};
 use guest_memory::{GuestMem, MemRefusal, SegKind};
 use handle_db::{Db, DbRefusal};
 use open_records::{RecFault, Records};
+use pci_model::Board;
+use pci_model::laws::boards_are_small;
 use soft_part::SoftPart;
 use std::alloc::Global;
 use std::marker::Model;
 use world_model::WorldFault;
 
+/// The handle of the first root bridge.
+const FIRST_ROOT: u64 = 3;
+
 /// The one state of the firmware: a soft part, which a mark keeps and a rollback puts back, and
-/// beside it the units that may still be spent and the events of the command, which no rollback
-/// touches.
+/// beside it the units that may still be spent, the events of the command, the board with its
+/// devices and the option ROMs of its functions, which no rollback touches.
 ///
 /// After `OutOfMemory` nothing is promised of a world except that it can be dropped.
 #[derive(Drop)]
@@ -45,12 +54,15 @@ pub struct World {
     soft: SoftPart,
     units: u64,
     events: Vec<Event>,
+    board: Board,
+    roms: Vec<Option<Vec<u8>>>,
     marks: Vec<SoftPart>,
 }
 
 impl Model for World {
     ghost use Rattle.std.specs.Prelude.{◌≡◌, reverse, true};
     ghost use Rattle.world_model.specs.World.{WorldView};
+    ghost use Rattle.world_model.specs.Boards.{roms_in};
     ghost use Rattle.world_model.specs.Events.{are_numbered};
 
     ghost Value = { WorldView };
@@ -58,7 +70,12 @@ impl Model for World {
     ghost view = { λ inside. record {
       now = record {
         soft = inside.soft;
-        hard = record { units = inside.units; events = inside.events.items };
+        hard = record {
+          units = inside.units;
+          events = inside.events.items;
+          board = inside.board;
+          roms = roms_in inside.roms.items;
+        };
       };
       marks = reverse inside.marks.items;
     } };
@@ -67,20 +84,33 @@ impl Model for World {
 }
 
 impl World {
-    /// The opening state: handle 1 is the firmware with its loaded image, handle 2 the PCI bus
-    /// driver with its binding, and the firmware's tables are mapped. No command has begun.
+    /// The opening state of a board: handle 1 is the firmware with its loaded image, handle 2 the
+    /// PCI bus driver with its binding, and from handle 3 on there is one for each root bridge, in
+    /// the order of the board's lines, with its device path and then with root bridge I/O. The
+    /// firmware's tables are mapped. No command has begun. `roms` has the option ROM of each
+    /// function of the board, by number, or `None` if the function has none.
     ///
     /// # Errors
     ///
     /// `OutOfMemory` if there is no memory.
-    pub fn new(alloc: Global) -> Result<World, OutOfMemory>
-        ensures { IfOk result (λ world. world ≡ opening) }
+    pub fn new(
+        alloc: Global,
+        board: Board,
+        roms: Vec<Option<Vec<u8>>>,
+    ) -> Result<World, OutOfMemory>
+        requires { length roms.items ≡ length (functions board.lines) }
+        ensures { IfOk result (λ world. world ≡ opening board (roms_in roms.items)) }
     {
+        board.soundness();
+        boards_are_small();
+        let soft = SoftPart::new(alloc, board.roots())?;
         Ok(World {
             alloc,
-            soft: SoftPart::new(alloc)?,
+            soft,
             units: 0,
             events: Vec::new(alloc),
+            board,
+            roms,
             marks: Vec::new(alloc),
         })
     }
@@ -101,6 +131,49 @@ impl World {
         ensures { IsKept self.now.now.soft }
     {
         self.soft.is_kept();
+    }
+
+    // ---- the board
+
+    /// The board, with its devices. Takes no memory.
+    pub fn board(&self) -> &Board
+        ensures { result.now ≡ self.now.now.hard.board }
+    {
+        &self.board
+    }
+
+    /// The board, to be changed. The world has the board that is left behind the reference. Takes
+    /// no memory.
+    pub fn board_mut(&mut self) -> &mut Board
+        ensures* writes_back { sem 𝓛 (LendsBoard self.entry result) }
+        ensures value { result.now ≡ self.old.now.hard.board }
+    {
+        &mut self.board
+    }
+
+    /// The bus below the root bridge of a handle (PCI Firmware 3.2). `None` exactly if the handle
+    /// is not that of a root bridge, or has no root bridge I/O of the firmware any more. Takes no
+    /// memory.
+    pub fn root_bus(&self, h: u64) -> Option<u8>
+        ensures { result ≡ root_bus h self.now.now }
+    {
+        let bridge = bridge_at(self.board.roots(), h)?;
+        let handle = Handle::new(h)?;
+        if !has_root_bridge_io(self.db(), handle) {
+            return None;
+        }
+        Some(bridge.1)
+    }
+
+    /// The option ROM of function `f`. `None` exactly if the function has none, or if there is no
+    /// such function. Takes no memory.
+    pub fn rom_bytes(&self, f: u32) -> Option<&[u8]>
+        ensures { option_copied result ≡ rom_of f self.now.now.hard }
+    {
+        match self.roms.get(f as usize) {
+            Some(Some(rom)) => Some(rom.as_slice()),
+            _ => None,
+        }
     }
 
     // ---- the task priority level
@@ -729,6 +802,25 @@ impl World {
         ensures { self.new ≡ committed self.old }
     {
         let _ = self.marks.pop();
+    }
+}
+
+/// The root bridge of a handle. Their handles follow that of the PCI bus driver.
+fn bridge_at(bridges: &[(u32, u8)], handle: u64) -> Option<(u32, u8)>
+    ensures { result ≡ root_at handle bridges.now }
+{
+    let place = handle.checked_sub(FIRST_ROOT)?;
+    bridges.get(place as usize).copied()
+}
+
+/// Whether a handle has root bridge I/O of the firmware (UEFI 2.8, 14.2: PCI Root Bridge I/O
+/// Protocol).
+fn has_root_bridge_io(db: &Db, handle: Handle) -> bool
+    ensures { result ≡ has_root_bridge_io handle db.now }
+{
+    match db.interface(handle, Guid::known(Known::RootBridgeIo)) {
+        Some((_interface, owner)) => owner.get() == Handle::firmware().get(),
+        None => false,
     }
 }
 

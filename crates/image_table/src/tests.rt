@@ -2,6 +2,7 @@ use crate::{PlaceFault, owner_of, place};
 use fw_types::{BOOT_SERVICE_DRIVER, Handle, MOST_FILE_BYTES, PeRefusal, RUNTIME_DRIVER, Rows};
 use fw_world::World;
 use guest_memory::GuestMem;
+use pci_model::Board;
 use rom_builder::{DriverParts, pe_of};
 use std::alloc::Global;
 use std::test::Fail;
@@ -56,7 +57,7 @@ fn a_unit_is_paid_for_each_64_bytes(rt: HostRuntime) -> Result<(), Fail> {
     ];
     for (size, units, answer, left) in cases {
         let file = driver_of(rt.alloc(), size)?;
-        let mut world = World::new(rt.alloc())?;
+        let mut world = World::new(rt.alloc(), Board::empty(rt.alloc()), Vec::new(rt.alloc()))?;
         world.begin_command(units);
         let placed = place(&mut world, file.as_slice(), 0);
         assert_eq!(rt;
@@ -71,7 +72,7 @@ fn a_unit_is_paid_for_each_64_bytes(rt: HostRuntime) -> Result<(), Fail> {
 
 #[test]
 fn a_refused_file_changes_nothing(rt: HostRuntime) -> Result<(), Fail> {
-    let mut world = World::new(rt.alloc())?;
+    let mut world = World::new(rt.alloc(), Board::empty(rt.alloc()), Vec::new(rt.alloc()))?;
     world.begin_command(100);
     let cases: [(&[u8], PeRefusal); 3] = [
         (b"", PeRefusal::Short),
@@ -90,7 +91,7 @@ fn a_refused_file_changes_nothing(rt: HostRuntime) -> Result<(), Fail> {
 /// A driver of boot services with no device, and a runtime driver of the device with handle 7.
 #[test]
 fn images_are_placed_one_after_the_other(rt: HostRuntime) -> Result<(), Fail> {
-    let mut world = World::new(rt.alloc())?;
+    let mut world = World::new(rt.alloc(), Board::empty(rt.alloc()), Vec::new(rt.alloc()))?;
     world.begin_command(100);
     let file = driver(rt.alloc(), BOOT_SERVICE_DRIVER)?;
     assert_eq!(rt; number(place(&mut world, file.as_slice(), 0)), Ok(3));
@@ -125,7 +126,7 @@ fn images_are_placed_one_after_the_other(rt: HostRuntime) -> Result<(), Fail> {
 /// An address, and the handle of the image whose code it is.
 #[test]
 fn an_address_has_an_owner(rt: HostRuntime) -> Result<(), Fail> {
-    let mut world = World::new(rt.alloc())?;
+    let mut world = World::new(rt.alloc(), Board::empty(rt.alloc()), Vec::new(rt.alloc()))?;
     world.begin_command(100);
     let file = driver(rt.alloc(), BOOT_SERVICE_DRIVER)?;
     assert_eq!(rt; number(place(&mut world, file.as_slice(), 0)), Ok(3));
@@ -156,7 +157,7 @@ fn an_address_has_an_owner(rt: HostRuntime) -> Result<(), Fail> {
 #[test]
 fn a_limit_leaves_the_price_spent(rt: HostRuntime) -> Result<(), Fail> {
     let file = driver_of(rt.alloc(), MOST_FILE_BYTES as u32)?;
-    let mut world = World::new(rt.alloc())?;
+    let mut world = World::new(rt.alloc(), Board::empty(rt.alloc()), Vec::new(rt.alloc()))?;
     world.begin_command(2_000_000);
     let cases: [(Result<u64, PlaceFault>, u64); 5] = [
         (Ok(3), 1_737_856),

@@ -5,6 +5,7 @@ use crate::{Caller, Served, serve};
 use fw_types::{Cause, Handle, Status};
 use fw_world::World;
 use guest_memory::GuestMem;
+use pci_model::Board;
 use service_thunks::Service;
 use std::alloc::AllocError;
 use std::test::Fail;
@@ -40,7 +41,7 @@ fn bytes_of(rt: &impl AllocGlobal, len: usize, byte: u8) -> Result<Vec<u8>, Allo
 
 /// A world with a stack of level 1 and one image, whose handle is 3, and with so many units.
 pub(crate) fn world_with(rt: &impl AllocGlobal, units: u32) -> Result<World, Fail> {
-    let mut world = World::new(rt.alloc())?;
+    let mut world = World::new(rt.alloc(), Board::empty(rt.alloc()), Vec::new(rt.alloc()))?;
     let _ = world.push_stack(1, &[0; 16], &[])?;
     let _ = world.add_image(vec![in rt.alloc(); 0x11u8, 0x22, 0x33, 0x44]?, 0, 11, 0)?;
     world.begin_command(units);

@@ -9,3 +9,4 @@ pub mod LocationLaws
 pub mod TableLemmas
 pub mod WriteLaws
 pub mod FirstDevices
+pub mod RomLaws

@@ -1,13 +1,14 @@
 -- What holds of boards: the laws of their lines, and of what is written to their devices.
-use Rattle.std.specs.Prelude.{◌≡◌, ◌≢◌, ◌≤◌, ◌<◌, ◌+◌, ◌-◌, ◌^◌, ℕ, List, ◌∷◌, ◌++◌, length, Bool, true, ◌&&◌, nat_eq, nat_le, nat_lt, slice_index, Some, None, Ok, if◌then◌else◌}
-use Rattle.std.specs.List.{list_any}
+use Rattle.std.specs.Prelude.{◌≡◌, ◌≢◌, ◌≤◌, ◌<◌, ◌+◌, ◌-◌, ◌^◌, ℕ, List, [], ◌∷◌, ◌++◌, length, Bool, true, ◌&&◌, nat_eq, nat_le, nat_lt, slice_index, Some, None, Ok, if◌then◌else◌}
+use Rattle.std.specs.List.{list_any, filter_map}
 use Rattle.byteorder.specs.Endian.{little_bytes}
-use Rattle.pci_model.specs.BoardLines.{Location, find_at, functions, functions_on, location_of, roots}
+use Rattle.pci_model.specs.BoardLines.{Location, find_at, functions, functions_on, location_of, name_at, roots}
 use Rattle.pci_model.specs.BoardRules.{board_fault, fault_on, line_fault}
 use Rattle.fw_types.specs.Layout.{put}
 use Rattle.pci_model.specs.Devices.{BoardState, IsSound, bar_read, bar_refusal, bar_written, config_after, config_read, config_written, writable_places}
 use Rattle.pci_model.specs.declared.numbers.TheConstants.{CONFIG_SIZE, MOST_FUNCTIONS, MOST_ROOTS}
 use Rattle.pci_model.specs.declared.line.BoardLine.{BoardLine}
+use Rattle.pci_model.specs.declared.line.BoardLine.TheVariants.{Rom}
 use Rattle.pci_model.specs.declared.fault.LineFault.{LineFault}
 use Rattle.pci_model.specs.declared.fault.BoardFault.{BoardFault}
 
@@ -31,6 +32,13 @@ RefusedAtFirst = (lines : List BoardLine) (fault : BoardFault) → board_fault l
 -- each line of a board has no fault after the lines before it
 abbrev pub EachPasses : Type 0
 EachPasses = (before after : List BoardLine) (line : BoardLine) → board_fault (before ++ line ∷ after) ≡ None → line_fault before line ≡ None
+
+-- no lines are a board, and lines of a board with one more that has no fault after them are a board
+abbrev pub NoLines : Type 0
+NoLines = board_fault [] ≡ None
+
+abbrev pub OneMorePasses : Type 0
+OneMorePasses = (before : List BoardLine) (line : BoardLine) → board_fault before ≡ None → line_fault before line ≡ None → board_fault (before ++ line ∷ []) ≡ None
 
 -- a board has at most 16 roots and 256 functions, and so at most 2,064 lines
 abbrev pub FewRoots : Type 0
@@ -60,6 +68,14 @@ AmongItsBus = (lines : List BoardLine) (number : ℕ) (location : Location) → 
 abbrev pub OnlyOfBus : Type 0
 OnlyOfBus = (lines : List BoardLine) (number bus : ℕ) → list_any (nat_eq number) (functions_on lines bus) ≡ true
     → (location : Location) × ((location_of lines number ≡ Some location) × (location.0 ≡ bus))
+
+-- ---- option ROMs
+
+-- of the lines before one that names the ROM of a function none names it
+abbrev pub RomIsNew : Type 0
+RomIsNew =
+    (before after : List BoardLine) (bus device function : ℕ) (name : List ℕ) → board_fault (before ++ Rom bus device function name ∷ after) ≡ None
+    → filter_map (name_at (bus, device, function)) before ≡ []
 
 -- ---- writes
 

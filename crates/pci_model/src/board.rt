@@ -1,4 +1,4 @@
-ghost use Rattle.std.specs.Prelude.{◌≡◌, None, IfOk, IsTrue, is_ok, length, option_copied, if◌then◌else◌};
+ghost use Rattle.std.specs.Prelude.{◌≡◌, [], None, IfOk, IsTrue, is_ok, length, option_copied, if◌then◌else◌};
 ghost use Rattle.byteorder.specs.Endian.{little_bytes};
 ghost use Rattle.pci_model.specs.BoardAnswers.{GivesBoard};
 ghost use Rattle.pci_model.specs.BoardLines.{find_at, functions, functions_on, location_of, rom_name_of, roots, secondary_of};
@@ -93,6 +93,19 @@ fn board_of(alloc: Global, lines: &[BoardLine]) -> Result<Board, OutOfMemory>
 }
 
 impl Board {
+    /// The board of no lines: it has no root bridge and no function. Takes no memory.
+    pub fn empty(alloc: Global) -> Board
+        ensures { result ≡ board_of [] }
+    {
+        Board {
+            lines: Vec::new(alloc),
+            roots: Vec::new(alloc),
+            functions: Vec::new(alloc),
+            numbers: BTreeMap::new(alloc),
+            devices: Vec::new(alloc),
+        }
+    }
+
     /// The lines, in order. Takes no memory.
     pub fn lines(&self) -> &[BoardLine]
         ensures { result.now ≡ self.now.lines }

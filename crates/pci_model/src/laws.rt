@@ -1,11 +1,14 @@
 //! Laws of boards, over the definitions alone. Each is the contract of a function with no code.
-ghost use Rattle.pci_model.specs.Laws.{AmongItsBus, BarApart, BarByte, BarNotConfig, BarReadBack, BarsApart, ConfigApart, ConfigByte, ConfigNotBar, EachPasses, FewFunctions, FewLines, FewRoots, FoundAtLocation, IsWhereFound, OnlyOfBus, RefusedAtFirst};
+ghost use Rattle.pci_model.specs.Laws.{AmongItsBus, BarApart, BarByte, BarNotConfig, BarReadBack, BarsApart, ConfigApart, ConfigByte, ConfigNotBar, EachPasses, FewFunctions, FewLines, FewRoots, FoundAtLocation, IsWhereFound, NoLines, OneMorePasses, OnlyOfBus, RefusedAtFirst, RomIsNew};
 
 /// Lines that are no board are refused for the first line that has a fault; each line of a board
-/// has none.
+/// has none. So a board grows line by line: it begins with no lines, and a line that has no fault
+/// makes a board again.
 pub fn lines_are_checked()
     ensures refused { RefusedAtFirst }
     ensures passes { EachPasses }
+    ensures none { NoLines }
+    ensures more { OneMorePasses }
 {}
 
 /// A board has at most 16 root bridges, 256 functions and 2,064 lines: a line for each of these,
@@ -27,6 +30,11 @@ pub fn locations_are_numbers()
 pub fn buses_are_whole()
     ensures all { AmongItsBus }
     ensures only { OnlyOfBus }
+{}
+
+/// No two lines of a board name the option ROM of one function.
+pub fn roms_are_apart()
+    ensures { RomIsNew }
 {}
 
 /// Which bytes a write changes: of a BAR those that it reaches, and of configuration space those of

@@ -24,6 +24,7 @@ mod tables;
 pub use board::{Board, board_from};
 pub use fault::{BoardFault, LineFault};
 pub use line::BoardLine;
+pub use numbers::MOST_ROM_BYTES;
 pub use refusal::DevRefusal;
 pub use rules::line_fault;
 

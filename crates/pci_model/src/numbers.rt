@@ -7,6 +7,9 @@ pub const MOST_ROOTS: usize = 16;
 /// The most functions, bridges among them, a limit of this project.
 pub const MOST_FUNCTIONS: usize = 256;
 
+/// The most bytes of a function's option ROM, a limit of this project.
+pub const MOST_ROM_BYTES: usize = 1_048_576;
+
 /// The most bytes of a BAR, a limit of this project.
 pub const LARGEST_BAR: u32 = 65_536;
 

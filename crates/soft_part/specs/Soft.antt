@@ -4,7 +4,7 @@ use Rattle.guest_memory.specs.declared.segment.Segment.{Segment}
 use Rattle.handle_db.specs.Database.{Database}
 use Rattle.open_records.specs.OpenRecords.{RecordTable}
 use Rattle.world_model.specs.World.{Soft}
-use Rattle.world_model.specs.Opening.{opening_soft}
+use Rattle.world_model.specs.Opening.{firmware_soft}
 use Rattle.soft_part.specs.declared.plain_part.PlainPart.{PlainPart}
 
 abbrev pub soft_of : List Segment → Database → RecordTable → PlainPart → Soft
@@ -26,7 +26,7 @@ with_plain plain soft = soft_of soft.memory soft.database soft.records plain
 
 -- whether plain fields are those of the opening state
 abbrev pub IsOpening : PlainPart → Type 0
-IsOpening plain = with_plain plain opening_soft ≡ opening_soft
+IsOpening plain = with_plain plain firmware_soft ≡ firmware_soft
 
 -- whether plain fields are the same
 abbrev pub IsCopyOf : PlainPart → PlainPart → Type 0

@@ -2,7 +2,7 @@
 ghost use Rattle.std.specs.Prelude.{◌≡◌, None, IfOk, OnErr, OnOk, is_ok, true};
 ghost use Rattle.handle_db.specs.Installing.{install_answer, installed};
 ghost use Rattle.world_model.specs.Interfaces.{firmware, interface as interface_value};
-ghost use Rattle.world_model.specs.Opening.{opening_database};
+ghost use Rattle.world_model.specs.Opening.{firmware_database};
 
 use fw_types::{Guid, Handle, Known, MOST_HANDLES, OutOfMemory};
 use guest_memory::address_map::{BUS_BINDING, FIRMWARE_IMAGE};
@@ -31,7 +31,7 @@ pub fn add_handle(db: &mut Db, guid: Guid, interface: u64) -> Result<Handle, Out
 /// Handle 1 with the loaded image of the firmware, and handle 2 with the binding of the PCI bus
 /// driver.
 pub fn opening(alloc: Global) -> Result<Db, OutOfMemory>
-    ensures { IfOk result (λ db. db ≡ opening_database) }
+    ensures { IfOk result (λ db. db ≡ firmware_database) }
 {
     let mut db = Db::new(alloc, MOST_HANDLES);
     add_handle(&mut db, Guid::known(Known::LoadedImage), FIRMWARE_IMAGE)?;

@@ -12,6 +12,7 @@ mod image_block;
 mod mapping;
 mod opens;
 mod plain_part;
+mod roots;
 mod soft_part;
 mod stack;
 mod tables;

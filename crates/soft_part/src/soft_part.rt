@@ -17,7 +17,8 @@ ghost use Rattle.world_model.specs.Thunks.{thunk_answer, thunk_at as thunk_value
 ghost use Rattle.world_model.specs.Stacks.{frame as frame_value, has_stack, stack_popped, stack_pushed};
 ghost use Rattle.world_model.specs.CommandPath.{has_no_path, path_cleared, path_room, path_set};
 ghost use Rattle.world_model.specs.Kept.{IsKept};
-ghost use Rattle.world_model.specs.Opening.{opening_soft};
+ghost use Rattle.world_model.specs.Opening.{firmware_soft, opening_soft};
+ghost use Rattle.pci_model.specs.declared.numbers.TheConstants.{MOST_ROOTS as most_roots};
 ghost use Rattle.soft_part.specs.Answers.{AsBefore};
 
 use crate::database::{add_handle, opening};
@@ -25,6 +26,7 @@ use crate::image_block::{ImageInfo, block_bytes};
 use crate::mapping::{map_free, map_image};
 use crate::opens::drop_records;
 use crate::plain_part::PlainPart;
+use crate::roots::add_roots;
 use crate::stack::{frame, map_list, stack_base, stack_bytes, unmap_level};
 use crate::tables::tables;
 use crate::thunks::{drop_from_segment, thunk_address, thunk_with};
@@ -66,13 +68,27 @@ impl Model for SoftPart {
 }
 
 impl SoftPart {
-    /// The soft part of the opening state.
+    /// The soft part of the opening state, for at most 16 root bridges with their _UID and bus.
     ///
     /// # Errors
     ///
     /// `OutOfMemory` if there is no memory.
-    pub fn new(alloc: Global) -> Result<SoftPart, OutOfMemory>
-        ensures { IfOk result (λ soft. soft ≡ opening_soft) }
+    pub fn new(alloc: Global, bridges: &[(u32, u8)]) -> Result<SoftPart, OutOfMemory>
+        requires { length bridges.now ≤ most_roots }
+        ensures { IfOk result (λ soft. soft ≡ opening_soft bridges.now) }
+    {
+        let mut soft = SoftPart::without_roots(alloc)?;
+        add_roots(&mut soft, alloc, bridges)?;
+        Ok(soft)
+    }
+
+    /// The soft part of the opening state, without root bridges.
+    ///
+    /// # Errors
+    ///
+    /// `OutOfMemory` if there is no memory.
+    fn without_roots(alloc: Global) -> Result<SoftPart, OutOfMemory>
+        ensures { IfOk result (λ soft. soft ≡ firmware_soft) }
     {
         Ok(SoftPart {
             alloc,

@@ -11,10 +11,9 @@ use Rattle.guest_memory.specs.Segment.{end_of, meets}
 use Rattle.guest_memory.specs.GuestMemory.{begins, is_of, kind_number, lie_from, mapped, unmapped}
 use Rattle.guest_memory.proofs.SegmentLemmas.{lie_from-mapped_apart, lie_from-unmapped}
 use Rattle.world_model.specs.declared.image.LoadedImage.{LoadedImage}
-use Rattle.world_model.specs.Tables.{firmware_contents}
 use Rattle.world_model.specs.Stacks.{has_list, has_stack, list_base, stack_base}
 use Rattle.world_model.specs.Kept.{is_in_region, is_placed}
-use Rattle.world_model.specs.CommandPath.{ClearingLeavesNoPath, OpeningHasNoPath, PathClearingKeeps, PathClearingKeepsStacks, PathFits, PathSettingKeeps, PathSettingKeepsStacks, SetPathIsAlone, is_beside_path, is_path_or_beside, path_room, path_segment}
+use Rattle.world_model.specs.CommandPath.{ClearingLeavesNoPath, PathClearingKeeps, PathClearingKeepsStacks, PathFits, PathSettingKeeps, PathSettingKeepsStacks, SetPathIsAlone, is_beside_path, is_path_or_beside, path_room, path_segment}
 use Rattle.world_model.proofs.Segments.{list_all-mapped, list_all-mono, list_all-unmapped, list_any-mapped, list_any-none}
 use Rattle.world_model.proofs.MapAnswers.{free-overlap, map-fits}
 use Rattle.world_model.proofs.Regions.{meets-apart}
@@ -22,7 +21,6 @@ use Rattle.world_model.proofs.FirmwareTables.{tables-mapped, tables-unmapped}
 use Rattle.world_model.proofs.Bases.{bases-mapped_other, bases-unmapped_other, no_image}
 use Rattle.world_model.proofs.ImageLists.{all_between, is_between}
 use Rattle.world_model.proofs.ImageSegments.{ListsHaveStacks, blocks-mapped, blocks-unmapped, entry_points-mapped, entry_points-unmapped, lists-unmapped_other}
-use Rattle.world_model.proofs.Structures.{length-block, length-boot_table, length-bus_binding, length-system_table}
 use Rattle.world_model.proofs.ThunkTargets.{targets-mapped, targets-unmapped_other}
 
 -- ---- setting
@@ -84,9 +82,6 @@ setting soft bytes kept none few =
 
 pub setting_keeps_stacks : PathSettingKeepsStacks
 setting_keeps_stacks soft bytes = bases-mapped_other kind.Stack (path_segment bytes) soft.memory refl
-
-pub opening_has_none : OpeningHasNoPath
-opening_has_none = rw (length-system_table, length-boot_table, length-bus_binding, length-block firmware_contents) refl
 
 pub set_is_alone : SetPathIsAlone
 set_is_alone soft bytes none =

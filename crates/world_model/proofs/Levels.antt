@@ -10,7 +10,7 @@ use Rattle.world_model.specs.World.{Soft}
 use Rattle.world_model.specs.Marks.{stacks}
 use Rattle.world_model.specs.Stacks.{has_stack, is_marked_stack, stack_base}
 use Rattle.world_model.specs.StackLaws.{inserted}
-use Rattle.world_model.specs.Levels.{CallHasMarks, DeeperHasMarks, DeeperIsFree, FewerToSpare, MarkingLeavesFree, NextIsFree, OpeningIsAtRest, PushingLeavesFree, RestHasMarks, RestIsFree, SpareIsMade, SparesAreEnough, all_leave_levels, has_marks, is_free, leaves_levels}
+use Rattle.world_model.specs.Levels.{CallHasMarks, DeeperHasMarks, DeeperIsFree, FewerToSpare, MarkingLeavesFree, NextIsFree, PushingLeavesFree, RestHasMarks, RestIsFree, SpareIsMade, SparesAreEnough, all_leave_levels, has_marks, is_free, leaves_levels}
 use Rattle.world_model.proofs.StackLaws.{pushing, stack_of_level}
 
 -- ---- stacks
@@ -114,9 +114,6 @@ unfolding has_marks
 spare_is_made left soft marks has = (grind (arith, nat_tests), grind (arith, nat_tests))
 
 -- ---- between commands
-
-pub opening_is_at_rest : OpeningIsAtRest
-opening_is_at_rest = record { no_stack = refl; no_mark = refl }
 
 pub rest_is_free : RestIsFree
 unfolding is_free

@@ -17,9 +17,11 @@ pub mod KeepingImages
 pub mod KeepingStacks
 pub mod KeepingThunks
 pub mod CommandPath
-pub mod OpeningState
 pub mod FixedSegments
+pub mod RootBridges
+pub mod OpeningState
 pub mod StackLaws
+pub mod RootLaws
 pub mod MarkLaws
 pub mod Legality
 pub mod ImageLaws

@@ -8,7 +8,7 @@ use Rattle.world_model.specs.World.{Hard}
 
 -- a command begins with its units and no event
 abbrev pub command_begun : ℕ → Hard → Hard
-command_begun units hard = record { units = units; events = [] }
+command_begun units hard = record hard { units = units; events = [] }
 
 -- the number of the next event
 abbrev pub next_serial : Hard → ℕ

@@ -18,10 +18,12 @@ use Rattle.world_model.specs.Images.{BlockContents, image_added, image_at, image
 use Rattle.world_model.specs.Stacks.{has_stack, list_segment, stack_popped, stack_pushed, stack_segment}
 use Rattle.world_model.specs.Kept.{IsKept}
 use Rattle.fw_types.specs.declared.limits.TheConstants.{MOST_LEVELS, MOST_LISTED}
+use Rattle.pci_model.specs.declared.numbers.TheConstants.{MOST_ROOTS}
 use Rattle.world_model.specs.Opening.{opening_soft}
 
+-- a board has at most 16 root bridges
 abbrev pub OpeningIsKept : Type 0
-OpeningIsKept = IsKept opening_soft
+OpeningIsKept = (bridges : List (ℕ × ℕ)) → length bridges ≤ MOST_ROOTS → IsKept (opening_soft bridges)
 
 abbrev pub WritingKeeps : Type 0
 WritingKeeps =

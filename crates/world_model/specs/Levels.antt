@@ -1,7 +1,8 @@
 -- Which stacks may be there, and how many marks may be open, while something runs at a level; and what
 -- holds between commands. A level counts by `left`, the levels that may still be entered after it.
-use Rattle.std.specs.Prelude.{◌≡◌, ◌<◌, ◌≤◌, ℕ, ◌+◌, ◌-◌, ◌*◌, Bool, true, false, ◌&&◌, nat_le, List, [], ◌∷◌, length}
+use Rattle.std.specs.Prelude.{◌≡◌, ◌<◌, ◌≤◌, ℕ, ◌+◌, ◌-◌, ◌*◌, Bool, true, false, ◌&&◌, nat_le, List, [], ◌∷◌, length, Option}
 use Rattle.std.specs.List.{list_all}
+use Rattle.pci_model.specs.Devices.{BoardState}
 use Rattle.fw_types.specs.declared.limits.TheConstants.{MOST_LEVELS, MOST_MARKS}
 use Rattle.guest_memory.specs.declared.address_map.TheConstants.{STACK_SIZE}
 use Rattle.world_model.specs.World.{Soft, WorldView}
@@ -85,7 +86,7 @@ pub record IsAtRest (w : WorldView) : Type 0 where
   pub no_mark : w.marks ≡ []
 
 abbrev pub OpeningIsAtRest : Type 0
-OpeningIsAtRest = IsAtRest opening
+OpeningIsAtRest = (board : BoardState) (roms : List (Option (List ℕ))) → IsAtRest (opening board roms)
 
 -- all levels are free then, and four marks are to spare
 abbrev pub RestIsFree : Type 0

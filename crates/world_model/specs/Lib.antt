@@ -11,6 +11,7 @@ pub mod Events
 pub mod Marks
 pub mod Tables
 pub mod Opening
+pub mod Boards
 pub mod Kept
 pub mod Legal
 pub mod Fixed

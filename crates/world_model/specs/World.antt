@@ -1,11 +1,12 @@
 -- The world of a machine: a soft part, which an undo puts back, and a hard part, which no undo touches.
-use Rattle.std.specs.Prelude.{ℕ, List, map, filter}
+use Rattle.std.specs.Prelude.{ℕ, List, map, filter, Option}
 use Rattle.fw_types.specs.declared.event.Event.{Event}
 use Rattle.guest_memory.specs.declared.segment.Segment.{Segment}
 use Rattle.guest_memory.specs.declared.segment.SegKind.{SegKind}
 use Rattle.guest_memory.specs.GuestMemory.{is_of}
 use Rattle.handle_db.specs.Database.{Database}
 use Rattle.open_records.specs.OpenRecords.{RecordTable}
+use Rattle.pci_model.specs.Devices.{BoardState}
 use Rattle.world_model.specs.declared.image.LoadedImage.{LoadedImage}
 use Rattle.world_model.specs.declared.thunk.Thunk.{Thunk}
 
@@ -23,10 +24,13 @@ pub record Soft : Type 0 where
   pub next_block : ℕ
   pub next_thunk : ℕ
 
--- the units that may still be spent, and the events of the command so far
+-- the units that may still be spent; the events of the command so far; the board, with the bytes of its
+-- devices; and the option ROM of each of the board's functions, by number, if it has one
 pub record Hard : Type 0 where
   pub units : ℕ
   pub events : List Event
+  pub board : BoardState
+  pub roms : List (Option (List ℕ))
 
 pub record State : Type 0 where
   pub soft : Soft

@@ -6,6 +6,7 @@ ghost use Rattle.fw_types.specs.declared.limits.TheConstants.{CALL_BUDGET, COMMA
 ghost use Rattle.guest_memory.specs.declared.address_map.TheConstants.{BLOCK_END};
 ghost use Rattle.world_model.specs.ThunkLaws.{DroppingTakesThunks, MadeIsFound, MakingKeepsOthers, ThunkEntersImage};
 ghost use Rattle.world_model.specs.ImageLaws.{AddedIsFound};
+ghost use Rattle.world_model.specs.Boards.{OpeningHandles, RollbackLeavesBoard, RootsAreThere, RootsFit, RootsHaveBuses};
 ghost use Rattle.world_model.specs.Children.{ChildrenAreFew};
 ghost use Rattle.world_model.specs.CommandPath.{ClearingLeavesNoPath, OpeningHasNoPath, PathClearingKeeps, PathClearingKeepsStacks, PathFits, PathSettingKeeps, PathSettingKeepsStacks, SetPathIsAlone};
 ghost use Rattle.world_model.specs.Fixed.{MappingKeepsFixed, PuttingKeepsFixed, UnmappingKeepsFixed, WritingKeepsFixed};
@@ -138,10 +139,22 @@ pub fn rest_is_free()
 {}
 
 /// A rollback puts the soft part back as it was when the mark was made, and a commit leaves it,
-/// whatever was done in between and however many marks are open.
+/// whatever was done in between and however many marks are open. A rollback leaves the board, with
+/// the bytes of its devices, and the option ROMs.
 pub fn marks_are_spent()
     ensures rollback { RollbackPutsBack }
     ensures commit { CommitSpendsMark }
+    ensures board { RollbackLeavesBoard }
+{}
+
+/// In the opening state each root bridge of the board has a handle with its device path and then
+/// with root bridge I/O, in the order of the board's lines. Beside these there are the handles of
+/// the firmware and of the bus driver. No limit keeps one of at most 16 root bridges out.
+pub fn roots_are_there()
+    ensures fit { RootsFit }
+    ensures interfaces { RootsAreThere }
+    ensures handles { OpeningHandles }
+    ensures buses { RootsHaveBuses }
 {}
 
 /// An image that is added is found under its new handle.

@@ -1,4 +1,5 @@
-use Rattle.world_model.proofs.CommandPath.{clearing, clearing_keeps_stacks, clearing_leaves_none, fitting, opening_has_none, set_is_alone, setting, setting_keeps_stacks}
+use Rattle.world_model.proofs.CommandPath.{clearing, clearing_keeps_stacks, clearing_leaves_none, fitting, set_is_alone, setting, setting_keeps_stacks}
+use Rattle.world_model.proofs.RootLaws.{opening_has_none}
 use Rattle.world_model.proofs.laws.command_paths_fit.Goals as goal
 
 pub returns : goal.returns

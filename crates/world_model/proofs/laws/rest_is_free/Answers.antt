@@ -1,4 +1,5 @@
-use Rattle.world_model.proofs.Levels.{fewer_to_spare, opening_is_at_rest, rest_has_marks, rest_is_free}
+use Rattle.world_model.proofs.Levels.{fewer_to_spare, rest_has_marks, rest_is_free}
+use Rattle.world_model.proofs.RootLaws.{opening_is_at_rest}
 use Rattle.world_model.proofs.laws.rest_is_free.Goals as goal
 
 pub returns : goal.returns

@@ -1,6 +1,7 @@
 use Rattle.std.proofs.Common.{◌≡◌, ◌<◌, ℕ, ◌+◌, ◌-◌, List, length, map, set, ap, sym, ◌∙◌, arith}
 use Rattle.fw_types.specs.declared.event.Event.{Event}
 use Rattle.world_model.specs.World.{WorldView, on_hard}
+use Rattle.world_model.specs.Boards.{roms_in}
 use Rattle.world_model.specs.Events.{event_ended, with_result}
 use Rattle.fw_world.proofs.Numbers.{ended_at, numbered-ended}
 use Rattle.fw_world.proofs.world.World.end_event.Goals as goal
@@ -22,4 +23,6 @@ pub invariant_of-self : goal.invariant_of-self
 invariant_of-self c = rw (ended c) (numbered-ended 1 c.args.serial c.args.outcome c.self.inside.events.items ∙ c.self.invariant)
 
 pub returns-clause-now : goal.returns-clause-now
-returns-clause-now c = ap (λ (events : List Event). record { soft = c.self.inside.soft; hard = record { units = c.self.inside.units; events = events } }) (ended c) ∙ ap (λ (w : WorldView). on_hard (event_ended c.args.serial c.args.outcome) w.now) c.self.view_is
+returns-clause-now c =
+    ap (λ (events : List Event). record { soft = c.self.inside.soft; hard = record { units = c.self.inside.units; events = events; board = c.self.inside.board; roms = roms_in c.self.inside.roms.items } }) (ended c)
+    ∙ ap (λ (w : WorldView). on_hard (event_ended c.args.serial c.args.outcome) w.now) c.self.view_is

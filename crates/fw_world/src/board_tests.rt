@@ -1,0 +1,91 @@
+//! The board in the world: its root bridges at first, its option ROMs, and what no undo touches.
+ghost use Rattle.std.specs.Prelude.{◌≡◌, [], IfOk};
+
+use crate::World;
+use fw_types::{Guid, Handle, Known};
+use guest_memory::GuestMem;
+use pci_model::{BoardLine, DevRefusal, board_from};
+use std::process::Abort;
+use std::test::Fail;
+
+/// Two root bridges, and a function with an option ROM of three bytes.
+fn on_two_roots(rt: &(impl AllocGlobal + Abort)) -> Result<World, Fail>
+    ensures { IfOk result (λ world. world.marks ≡ []) }
+{
+    let lines = [
+        BoardLine::Root { uid: 0, bus: 0 },
+        BoardLine::Root {
+            uid: 0x1234,
+            bus: 0x80,
+        },
+        BoardLine::Func {
+            bus: 0x80,
+            device: 3,
+            function: 0,
+            vendor: 0x8086,
+            id: 0x100E,
+            class: 0x02_0000,
+        },
+    ];
+    let board = board_from(rt.alloc(), &lines)?;
+    let mut roms = Vec::new(rt.alloc());
+    roms.push(Some(vec![in rt.alloc(); 0x55, 0xAA, 1]?))?;
+    assert!(rt; roms.len() == board.functions() as usize);
+    Ok(World::new(rt.alloc(), board, roms)?)
+}
+
+/// Each root bridge has a handle from 3 on, with its device path and then with root bridge I/O.
+#[test]
+fn roots_in_line_order(rt: HostRuntime) -> Result<(), Fail> {
+    let world = on_two_roots(&rt)?;
+    let path = Guid::known(Known::DevicePath);
+    let bridge = Guid::known(Known::RootBridgeIo);
+    let firmware = Handle::firmware();
+    let cases = [
+        (3, 0x1_0000_0000, [0, 0, 0, 0], Some(0)),
+        (4, 0x1_0000_0010, [0x34, 0x12, 0, 0], Some(0x80)),
+    ];
+    for (number, at, uid, bus) in cases {
+        let Some(handle) = Handle::new(number) else {
+            continue;
+        };
+        let found = world.db().protocols_of(handle)?;
+        let both = [(path, at, firmware), (bridge, 0, firmware)];
+        assert_eq!(rt; found.as_slice(), both.as_slice());
+        let [a, b, c, d] = uid;
+        let bytes: [u8; 16] = [
+            0x02, 0x01, 0x0C, 0x00, 0xD0, 0x41, 0x03, 0x0A, a, b, c, d, 0x7F, 0xFF, 0x04, 0x00,
+        ];
+        for (place, byte) in (at..u64::MAX).zip(bytes) {
+            assert_eq!(rt; world.read(place, 1), Some(u64::from(byte)));
+        }
+        assert_eq!(rt; world.read(at + 16, 1).is_some(), number == 3);
+        assert_eq!(rt; world.root_bus(number), bus);
+    }
+    for number in [0, 1, 2, 5] {
+        assert_eq!(rt; world.root_bus(number), None);
+    }
+    assert_eq!(rt; world.db().is_live(5), false);
+    Ok(())
+}
+
+/// Writes the interrupt line of function 0.
+fn write_interrupt_line(world: &mut World, line: u64) -> Result<(), DevRefusal>
+    ensures soft { world.new.now.soft ≡ world.old.now.soft }
+    ensures marks { world.new.marks ≡ world.old.marks }
+{
+    world.board_mut().config_write(0, 0x3C, 1, line)
+}
+
+/// What is written to a device stays after an undo, and so do the option ROMs.
+#[test]
+fn devices_stay(rt: HostRuntime) -> Result<(), Fail> {
+    let mut world = on_two_roots(&rt)?;
+    let mark = world.mark()?;
+    write_interrupt_line(&mut world, 11)?;
+    world.rollback(mark)?;
+    assert_eq!(rt; world.board().config_read(0, 0x3C, 1), Ok(11));
+    assert_eq!(rt; world.rom_bytes(0), Some(&[0x55, 0xAA, 1][..]));
+    assert_eq!(rt; world.rom_bytes(1), None);
+    Ok(())
+}
