@@ -7,9 +7,11 @@ use std::rt::Files;
 ///
 /// A line `driver IMAGE PART ..` names an image file, and the listings of its code: `PART` is
 /// `drivers/PART.asm`, and each follows the one before. A line `file IMAGE LISTING` names an image
-/// file that the folder has, and its listing. All other lines are the report that is expected, and
-/// what follows `> ` in it is the script. A case with lines `script FILE` and `report FILE` has the
-/// script and the report in these files.
+/// file that the folder has, and its listing. A line `option-rom ROM LISTING` names the file of an
+/// option ROM that the folder has, and the listing of the driver in it. A line `board LINE` is a
+/// line of the board. All other lines are the report that is expected. The script is the lines of
+/// the board, and then what follows `> ` in the report. A case with lines `script FILE` and
+/// `report FILE` has the script and the report in these files.
 #[derive(Drop)]
 pub struct Case<'a> {
     pub name: &'a str,
@@ -49,13 +51,24 @@ impl Case<'_> {
             return Ok(fs::read_to_string(rt, file)?);
         }
         let mut script = String::new(rt.alloc());
+        self.add_after("board ", &mut script)?;
+        self.add_after("> ", &mut script)?;
+        Ok(script)
+    }
+
+    /// Adds what follows these words in each line that begins with them to a text, as lines.
+    ///
+    /// # Errors
+    ///
+    /// Out of memory.
+    fn add_after(&self, words: &str, text: &mut String) -> Result<()> {
         for line in self.lines.as_slice() {
-            if let Some(command) = line.strip_prefix("> ") {
-                script.push_str(command)?;
-                script.push('\n')?;
+            if let Some(rest) = line.strip_prefix(words) {
+                text.push_str(rest)?;
+                text.push('\n')?;
             }
         }
-        Ok(script)
+        Ok(())
     }
 
     /// The report that is expected.
@@ -69,7 +82,7 @@ impl Case<'_> {
         }
         let mut report = String::new(rt.alloc());
         for line in self.lines.as_slice() {
-            if !names_files(line) {
+            if !is_given(line) {
                 report.push_str(line)?;
                 report.push('\n')?;
             }
@@ -88,7 +101,10 @@ impl Case<'_> {
     }
 }
 
-/// Whether a line names files, so that it is no line of the report.
-fn names_files(line: &str) -> bool {
-    line.starts_with("driver ") || line.starts_with("file ")
+/// Whether a line names files or is a line of the board, so that it is no line of the report.
+fn is_given(line: &str) -> bool {
+    line.starts_with("driver ")
+        || line.starts_with("file ")
+        || line.starts_with("option-rom ")
+        || line.starts_with("board ")
 }

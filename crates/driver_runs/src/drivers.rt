@@ -6,7 +6,7 @@ use anyhow::{Context, Result, ensure};
 use ebc_asm::assemble;
 use fw_shelf::{Shelf, ShelfFault};
 use fw_types::Rows;
-use rom_builder::{DriverParts, pe_of};
+use rom_builder::{DriverParts, pe_of, rom_of};
 use std::alloc::Global;
 use std::fs;
 use std::rt::Files;
@@ -17,19 +17,22 @@ const BOOT_SERVICE_DRIVER: u16 = 11;
 /// The most bytes of a listing.
 const MOST_BYTES: usize = 0xFFFF_FFFF;
 
-/// The image files of a case, each with its name.
+/// The IDs and the class of the network controller that the option ROMs of the examples are for.
+const NETWORK_CONTROLLER: (u16, u16, u32) = (0x8086, 0x100E, 0x02_0000);
+
+/// The files of a case, each with its name.
 #[derive(Drop)]
 pub struct ImageShelf {
     files: Vec<(String, Vec<u8>)>,
 }
 
 impl ImageShelf {
-    /// The image files that the lines of a case make.
+    /// The files that the lines of a case make.
     ///
     /// # Errors
     ///
-    /// A listing that is refused, an image that differs from the file that the folder has, a file
-    /// that can't be read, and out of memory.
+    /// A listing that is refused, an image or an option ROM that differs from the file that the
+    /// folder has, a file that can't be read, and out of memory.
     pub fn of<R: Files + AllocGlobal>(rt: &R, case: &Case) -> Result<ImageShelf> {
         let mut files = Vec::new(rt.alloc());
         for line in case.lines.as_slice() {
@@ -37,7 +40,12 @@ impl ImageShelf {
                 files.push(driver_of(rt, words)?)?;
             }
             if let Some(words) = line.strip_prefix("file ") {
-                files.push(checked_file(rt, words)?)?;
+                let (name, image) = named_image(rt, words)?;
+                files.push(checked_file(rt, name, image)?)?;
+            }
+            if let Some(words) = line.strip_prefix("option-rom ") {
+                let (name, image) = named_image(rt, words)?;
+                files.push(checked_file(rt, name, rom_with(rt.alloc(), image)?)?)?;
             }
         }
         Ok(ImageShelf { files })
@@ -91,23 +99,46 @@ fn driver_of<R: Files + AllocGlobal>(rt: &R, words: &str) -> Result<(String, Vec
     Ok((name.to_string(alloc)?, image))
 }
 
-/// The image file of a line `file`: its name, and the image of its listing, which the folder has too.
+/// The name of the file of a line `file` or `option-rom`, and the image of its listing.
 ///
 /// # Errors
 ///
-/// A listing that is refused, an image that differs from the file, a file that can't be read, and
-/// out of memory.
-fn checked_file<R: Files + AllocGlobal>(rt: &R, words: &str) -> Result<(String, Vec<u8>)> {
-    let alloc = rt.alloc();
+/// A listing that is refused, a file that can't be read, and out of memory.
+fn named_image<'a, R: Files + AllocGlobal>(rt: &R, words: &'a str) -> Result<(&'a str, Vec<u8>)> {
     let (name, path) = words.split_once(' ').context("a file without a listing")?;
     let listing = fs::read_to_string(rt, path).context(format_args!("reading {path}"))?;
-    let image = image_of(alloc, listing.as_str()).context(format_args!("making {name}"))?;
+    let image = image_of(rt.alloc(), listing.as_str()).context(format_args!("making {name}"))?;
+    Ok((name, image))
+}
+
+/// A file with its name, which the folder has too.
+///
+/// # Errors
+///
+/// A file that differs, one that can't be read, and out of memory.
+fn checked_file<R: Files + AllocGlobal>(
+    rt: &R,
+    name: &str,
+    bytes: Vec<u8>,
+) -> Result<(String, Vec<u8>)> {
     let file = fs::read(rt, name).context(format_args!("reading {name}"))?;
     ensure!(
-        file.as_slice() == image.as_slice(),
-        "{path} does not make {name}"
+        file.as_slice() == bytes.as_slice(),
+        "the listing does not make {name}"
     );
-    Ok((name.to_string(alloc)?, image))
+    Ok((name.to_string(rt.alloc())?, bytes))
+}
+
+/// An option ROM with one image.
+///
+/// # Errors
+///
+/// An image that is too long, and out of memory.
+fn rom_with(alloc: Global, image: Vec<u8>) -> Result<Vec<u8>> {
+    let (vendor, device, class) = NETWORK_CONTROLLER;
+    let mut images = Vec::new(alloc);
+    images.push(image)?;
+    Ok(rom_of(alloc, vendor, device, class, images.as_slice())?)
 }
 
 /// The image of a listing, which is entered at its first instruction.

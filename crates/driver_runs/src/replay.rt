@@ -5,7 +5,8 @@ ghost use Rattle.fw_types.specs.Commands.{has_legal_budgets};
 use anyhow::{Result, bail};
 use bind_engine::Machine;
 use fw_shelf::Shelf;
-use report_text::render;
+use pci_model::board_from;
+use report_text::{render, render_boot};
 use script_text::{Script, ScriptFault, parse};
 use std::alloc::Global;
 
@@ -23,12 +24,15 @@ pub fn report_of<F: Shelf>(alloc: Global, script: &[u8], shelf: &mut F) -> Resul
     replay(alloc, &script, shelf)
 }
 
-/// The texts of the commands of a script, which are done on a new machine one after the other.
+/// The notes of the board of a script, and the texts of its commands, which are done on a new machine
+/// with that board one after the other.
 fn replay<F: Shelf>(alloc: Global, script: &Script, shelf: &mut F) -> Result<String>
     requires budgets { list_all has_legal_budgets script.now.commands ≡ true }
 {
-    let mut report = String::new(alloc);
-    let mut machine = Machine::boot(alloc)?;
+    let board = board_from(alloc, script.board.as_slice())?;
+    let (first, notes) = Machine::boot(alloc, board, shelf)?;
+    let mut report = render_boot(alloc, notes.as_slice())?;
+    let mut machine = first;
     for command in script.commands.as_slice() {
         let (next, reply) = machine.exec(command, shelf)?;
         report.push_str(render(alloc, command, &reply)?.as_str())?;

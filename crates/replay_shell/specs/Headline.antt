@@ -1,6 +1,6 @@
 -- What the program answers to its words over the files of a shelf: a status and the whole text that it
 -- writes.
-use Rattle.std.specs.Prelude.{◌≡◌, ℕ, List, [], ◌∷◌, Bool, true, false, ◌||◌, Option, Some, None, Result, Ok, Err, bytes_eq, codes, map, nat_eq, slice_get, slice_range, take, String, string_bytes, ◌⊎◌, if◌then◌else◌}
+use Rattle.std.specs.Prelude.{◌≡◌, ℕ, List, [], ◌∷◌, ◌++◌, Bool, true, false, ◌||◌, Option, Some, None, Result, Ok, Err, bytes_eq, codes, map, nat_eq, slice_get, slice_range, take, String, string_bytes, ◌⊎◌, if◌then◌else◌}
 use Rattle.std.specs.List.{concat}
 use Rattle.std.specs.Option.{option_map_or}
 use Rattle.std.specs.declared.alloc.Global.{Global}
@@ -12,11 +12,13 @@ use Rattle.fw_shelf.specs.Sink.{with_bytes, TakesProperPrefix}
 use Rattle.pe_image.specs.ImageRules.{code_end_of, entry_of, refusal_of}
 use Rattle.pe_image.specs.LaidImage.{laid}
 use Rattle.ebc_asm.specs.Listing.{listing}
+use Rattle.pci_model.specs.Devices.{board_of}
 use Rattle.script_text.specs.declared.script.Script.{Script}
 use Rattle.script_text.specs.ScriptGrammar.{Reading, accepted, refused, script_of}
-use Rattle.report_text.specs.Report.{reply_text}
+use Rattle.report_text.specs.Report.{boot_text, reply_text}
 use Rattle.bind_engine.specs.Machine.{MachineView}
-use Rattle.bind_engine.specs.Commands.{booted, exec, reads_file}
+use Rattle.bind_engine.specs.Boot.{boot_notes, booted}
+use Rattle.bind_engine.specs.Commands.{exec, reads_file}
 use Rattle.replay_shell.specs.declared.respond.Form.{Form as FormOfCode}
 use Rattle.replay_shell.specs.declared.respond.Form.TheVariants.{Run, Disasm}
 use Rattle.replay_shell.specs.declared.replay.Stop.{Stop}
@@ -62,6 +64,18 @@ texts files machine (command ∷ commands) =
     let after : Reply × MachineView = exec command files machine in
     reply_text command after.0 ∷ texts files after.1 commands
 
+-- the notes of the opening: which functions of the script's board have no option ROM although a line names one
+abbrev pub opening_text : Files → Script → List ℕ
+opening_text files script = boot_text (boot_notes files (board_of script.board))
+
+-- the texts of the script's replies: the machine begins with the script's board
+abbrev pub reply_texts : Files → Script → List (List ℕ)
+reply_texts files script = texts files (booted files (board_of script.board)) script.commands
+
+-- the report of a script
+abbrev pub report : Files → Script → List ℕ
+report files script = opening_text files script ++ concat (reply_texts files script)
+
 -- The answer.
 
 pub record Answer : Type 0 where
@@ -73,7 +87,7 @@ answer status text = record { status = status; text = text }
 
 -- the report of a script, or the line that says which of its lines is refused
 abbrev pub script_answer : Files → Reading Script → Answer
-script_answer files (accepted script) = answer 0 (concat (texts files booted script.commands))
+script_answer files (accepted script) = answer 0 (report files script)
 script_answer files (refused number kind) = answer 2 (refused_line number kind)
 
 -- the script is absent, there, or too long
@@ -111,24 +125,27 @@ form_answer files (Some (disasm name)) = image_file_answer (file_of files name)
 abbrev pub answer_of : Files → List (List ℕ) → Answer
 answer_of files words = form_answer files (form_of words)
 
--- The commands that the words ask for: those of the script, and none if no script is run.
+-- The script that the words ask for, or an empty one if no script is run.
 
-abbrev pub script_commands : Reading Script → List Command
-script_commands (accepted script) = script.commands
-script_commands (refused number kind) = []
+abbrev pub no_script : Script
+no_script = record { board = []; commands = [] }
 
-abbrev pub file_commands : NamedFile → List Command
-file_commands absent = []
-file_commands (present bytes) = script_commands (script_of bytes)
-file_commands too_long = []
+abbrev pub read_script : Reading Script → Script
+read_script (accepted script) = script
+read_script (refused number kind) = no_script
 
-abbrev pub form_commands : Files → Option Form → List Command
-form_commands files None = []
-form_commands files (Some (run name)) = file_commands (file_of files name)
-form_commands files (Some (disasm name)) = []
+abbrev pub file_script : NamedFile → Script
+file_script absent = no_script
+file_script (present bytes) = read_script (script_of bytes)
+file_script too_long = no_script
 
-abbrev pub commands_for : Files → List (List ℕ) → List Command
-commands_for files words = form_commands files (form_of words)
+abbrev pub form_script : Files → Option Form → Script
+form_script files None = no_script
+form_script files (Some (run name)) = file_script (file_of files name)
+form_script files (Some (disasm name)) = no_script
+
+abbrev pub script_for : Files → List (List ℕ) → Script
+script_for files words = form_script files (form_of words)
 
 -- How the program may end.
 
@@ -144,22 +161,24 @@ TakesPrefix old text new = (n : ℕ) × (new ≡ with_bytes old (take n text))
 abbrev pub reads_at : List Command → ℕ → Bool
 reads_at commands place = option_map_or reads_file (slice_get commands place) false
 
--- nothing was taken, or the texts of the replies to the commands before one that reads a file
-abbrev pub StopsAtRead : Files → List Command → Option (List ℕ) → Option (List ℕ) → Type 0
-StopsAtRead files commands old new =
-    (new ≡ old) ⊎ ((k : ℕ) × (reads_at commands k ≡ true) × (new ≡ with_bytes old (concat (take k (texts files booted commands)))))
+-- nothing was taken, or the notes of the opening and the texts of the replies to the commands before one
+-- that reads a file
+abbrev pub StopsAtRead : Files → Script → Option (List ℕ) → Option (List ℕ) → Type 0
+StopsAtRead files script old new =
+    (new ≡ old)
+    ⊎ ((k : ℕ) × (reads_at script.commands k ≡ true) × (new ≡ with_bytes old (opening_text files script ++ concat (take k (reply_texts files script)))))
 
--- How the program ends if this is its answer and these are its commands: with the answer, or it gives
--- up after a prefix of the text was taken, which is not all of it if the sink failed.
-abbrev pub EndsWith : Answer → Files → List Command → Result ℕ Stop → Option (List ℕ) → Option (List ℕ) → Type 0
-EndsWith a files commands (Ok status) old new = (status ≡ a.status) × (new ≡ with_bytes old a.text)
-EndsWith a files commands (Err Shelf) old new = StopsAtRead files commands old new
-EndsWith a files commands (Err Sink) old new = TakesProperPrefix old a.text new
-EndsWith a files commands (Err Memory) old new = TakesPrefix old a.text new
+-- How the program ends if this is its answer and this its script: with the answer, or it gives up after a
+-- prefix of the text was taken, which is not all of it if the sink failed.
+abbrev pub EndsWith : Answer → Files → Script → Result ℕ Stop → Option (List ℕ) → Option (List ℕ) → Type 0
+EndsWith a files script (Ok status) old new = (status ≡ a.status) × (new ≡ with_bytes old a.text)
+EndsWith a files script (Err Shelf) old new = StopsAtRead files script old new
+EndsWith a files script (Err Sink) old new = TakesProperPrefix old a.text new
+EndsWith a files script (Err Memory) old new = TakesPrefix old a.text new
 
 -- the same for words over files
 abbrev pub Ends : Files → List (List ℕ) → Result ℕ Stop → Option (List ℕ) → Option (List ℕ) → Type 0
-Ends files words result old new = EndsWith (answer_of files words) files (commands_for files words) result old new
+Ends files words result old new = EndsWith (answer_of files words) files (script_for files words) result old new
 
 -- the whole text that words ask for
 abbrev pub text_for : Files → List (List ℕ) → List ℕ

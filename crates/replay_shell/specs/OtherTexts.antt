@@ -3,7 +3,7 @@ use Rattle.std.specs.Prelude.{ℕ, List, [], ◌∷◌, ◌++◌, codes}
 use Rattle.std.specs.Fmt.{decimal}
 use Rattle.fw_types.specs.declared.image.PeRefusal.{PeRefusal}
 use Rattle.script_text.specs.declared.script.ScriptKind.{ScriptKind}
-use Rattle.script_text.specs.declared.script.ScriptKind.TheVariants.{TooLong, NotAscii, NotBuilt, UnknownWord, Missing, Extra, Number}
+use Rattle.script_text.specs.declared.script.ScriptKind.TheVariants.{TooLong, NotAscii, NotBuilt, UnknownWord, Missing, Extra, Number, BoardLate, Duplicate}
 use Rattle.report_text.specs.Report.{line, refusal_word}
 
 -- words of none of the program's forms
@@ -27,6 +27,8 @@ kind_word UnknownWord = codes "UnknownWord"
 kind_word Missing = codes "Missing"
 kind_word Extra = codes "Extra"
 kind_word Number = codes "Number"
+kind_word BoardLate = codes "BoardLate"
+kind_word Duplicate = codes "Duplicate"
 
 -- a line of the script is refused
 abbrev pub refused_line : ℕ → ScriptKind → List ℕ

@@ -1,17 +1,18 @@
 -- How a replay of a script may end, and what the sink took by then.
-use Rattle.std.specs.Prelude.{◌≡◌, true, List, ℕ, Option, Result, Ok, Err}
+use Rattle.std.specs.Prelude.{◌≡◌, true, List, ℕ, take, Option, Result, Ok, Err}
 use Rattle.std.specs.List.{concat}
 use Rattle.fw_types.specs.declared.command.Command.{Command}
 use Rattle.fw_shelf.specs.Shelf.{Files}
 use Rattle.fw_shelf.specs.Sink.{with_bytes, TakesProperPrefix}
+use Rattle.script_text.specs.declared.script.Script.{Script}
 use Rattle.report_text.specs.Report.{reply_text}
 use Rattle.bind_engine.specs.Machine.{MachineView}
-use Rattle.bind_engine.specs.Commands.{booted, exec, reads_file}
+use Rattle.bind_engine.specs.Commands.{exec, reads_file}
 use Rattle.bind_engine.specs.declared.machine.ExecFault.{ExecFault}
 use Rattle.bind_engine.specs.declared.machine.ExecFault.TheVariants.{ShelfFailed, OutOfMemory}
 use Rattle.replay_shell.specs.declared.replay.Stop.{Stop}
 use Rattle.replay_shell.specs.declared.replay.Stop.TheVariants.{Shelf, Sink, Memory}
-use Rattle.replay_shell.specs.Headline.{StopsAtRead, TakesPrefix, texts}
+use Rattle.replay_shell.specs.Headline.{StopsAtRead, TakesPrefix, reads_at, report, texts}
 
 -- the stop that a fault of the machine makes
 abbrev pub stop_of : ExecFault → Stop
@@ -29,9 +30,16 @@ TakesTurn files machine command (Err Shelf) old new = (reads_file command ≡ tr
 TakesTurn files machine command (Err Sink) old new = TakesProperPrefix old (text_of files machine command) new
 TakesTurn files machine command (Err Memory) old new = new ≡ old
 
--- all commands from the opening state
-abbrev pub Replays : Files → List Command → Result (Unit {0}) Stop → Option (List ℕ) → Option (List ℕ) → Type 0
-Replays files commands (Ok done) old new = new ≡ with_bytes old (concat (texts files booted commands))
-Replays files commands (Err Shelf) old new = StopsAtRead files commands old new
-Replays files commands (Err Sink) old new = TakesProperPrefix old (concat (texts files booted commands)) new
-Replays files commands (Err Memory) old new = TakesPrefix old (concat (texts files booted commands)) new
+-- all commands, from a machine on
+abbrev pub TakesTurns : Files → MachineView → List Command → Result (Unit {0}) Stop → Option (List ℕ) → Option (List ℕ) → Type 0
+TakesTurns files machine commands (Ok done) old new = new ≡ with_bytes old (concat (texts files machine commands))
+TakesTurns files machine commands (Err Shelf) old new = (k : ℕ) × (reads_at commands k ≡ true) × (new ≡ with_bytes old (concat (take k (texts files machine commands))))
+TakesTurns files machine commands (Err Sink) old new = TakesProperPrefix old (concat (texts files machine commands)) new
+TakesTurns files machine commands (Err Memory) old new = TakesPrefix old (concat (texts files machine commands)) new
+
+-- the whole script
+abbrev pub Replays : Files → Script → Result (Unit {0}) Stop → Option (List ℕ) → Option (List ℕ) → Type 0
+Replays files script (Ok done) old new = new ≡ with_bytes old (report files script)
+Replays files script (Err Shelf) old new = StopsAtRead files script old new
+Replays files script (Err Sink) old new = TakesProperPrefix old (report files script) new
+Replays files script (Err Memory) old new = TakesPrefix old (report files script) new

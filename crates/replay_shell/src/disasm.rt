@@ -2,7 +2,7 @@ ghost use Rattle.std.specs.Prelude.{◌≡◌, ◌≢◌, ◌≤◌, [], Some, I
 ghost use Rattle.fw_shelf.specs.Faults.{Rose};
 ghost use Rattle.fw_shelf.specs.Shelf.{Files, file_of};
 ghost use Rattle.pe_image.specs.ImageRules.{entry_of, refusal_of, size_of};
-ghost use Rattle.replay_shell.specs.Headline.{EndsWith, answer, code_listing, code_listing_to, gives_up, image_answer, image_file_answer};
+ghost use Rattle.replay_shell.specs.Headline.{EndsWith, answer, code_listing, code_listing_to, gives_up, image_answer, image_file_answer, no_script};
 ghost use Rattle.replay_shell.specs.OtherTexts.{refused_image_line};
 
 use crate::replay::Stop;
@@ -63,7 +63,7 @@ fn listing_to(alloc: Global, view: &PeView<'_>, end: u32) -> Result<String, OutO
 /// - `Sink` only if the sink failed.
 /// - `Memory` if there is no memory for the text.
 fn say_listing<K: Sink>(alloc: Global, view: &PeView<'_>, sink: &mut K) -> Result<u8, Stop>
-    ensures taken { (files : Files) → EndsWith (answer 0 (code_listing view.now)) files [] result
+    ensures taken { (files : Files) → EndsWith (answer 0 (code_listing view.now)) files no_script result
         (K.taken sink.old) (K.taken sink.new) }
     ensures status { IfOk result (λ answer. answer ≡ 0) }
     ensures no_shelf { IfErr result (λ stop. stop ≢ Stop.Shelf) }
@@ -82,7 +82,7 @@ fn say_listing<K: Sink>(alloc: Global, view: &PeView<'_>, sink: &mut K) -> Resul
 /// - `Sink` only if the sink failed.
 /// - `Memory` if there is no memory for the text.
 fn say_refusal<K: Sink>(alloc: Global, kind: PeRefusal, sink: &mut K) -> Result<u8, Stop>
-    ensures taken { (files : Files) → EndsWith (answer 8 (refused_image_line kind)) files [] result
+    ensures taken { (files : Files) → EndsWith (answer 8 (refused_image_line kind)) files no_script result
         (K.taken sink.old) (K.taken sink.new) }
     ensures status { IfOk result (λ answer. answer ≡ 8) }
     ensures no_shelf { IfErr result (λ stop. stop ≢ Stop.Shelf) }
@@ -102,7 +102,7 @@ fn say_refusal<K: Sink>(alloc: Global, kind: PeRefusal, sink: &mut K) -> Result<
 /// - `Memory` if there is no memory for the text.
 fn list_bytes<K: Sink>(alloc: Global, file: &[u8], sink: &mut K) -> Result<u8, Stop>
     ensures taken { (files : Files)
-        → EndsWith (image_answer (refusal_of file.now) file.now) files [] result
+        → EndsWith (image_answer (refusal_of file.now) file.now) files no_script result
         (K.taken sink.old) (K.taken sink.new) }
     ensures status { IfOk result
         (λ answer. (gives_up answer ≡ false) × (nat_eq answer 1 ≡ false)) }
@@ -131,7 +131,7 @@ pub fn list_image<F: Shelf, K: Sink>(
     sink: &mut K,
 ) -> Result<u8, Stop>
     ensures taken { (files : Files) → F.files shelf.old ≡ Some files
-        → EndsWith (image_file_answer (file_of files name.now)) files []
+        → EndsWith (image_file_answer (file_of files name.now)) files no_script
         result (K.taken sink.old) (K.taken sink.new) }
     ensures status { IfOk result
         (λ answer. (gives_up answer ≡ false) × (nat_eq answer 1 ≡ false)) }

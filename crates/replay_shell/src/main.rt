@@ -1,15 +1,18 @@
 //! The program: it reads a script, replays its commands on the driver-model machine, and writes the
 //! report.
 //!
-//! The way of a command: `respond` reads the words, `script_text` turns the script's lines into
-//! commands, `replay` hands the machine of `bind_engine` from command to command, and `report_text`
-//! makes the text of each. `disasm` lists an image. `top` is all of this over any shelf and any
+//! The way of a command: `respond` reads the words, `script_text` turns the script's lines into a
+//! board and commands, `replay` begins the machine of `bind_engine` with the board and hands it from
+//! command to command, and `report_text` makes the text of the board's notes and that of each
+//! command. `disasm` lists an image. `top` is all of this over any shelf and any
 //! sink.
 #![tactic(auto)]
 
 ghost use Rattle.std.specs.Prelude.{◌≡◌, ◌≢◌, IfOk, drop};
 ghost use Rattle.std.specs.Vec.Iter.{into_iter_items};
 
+#[cfg(test)]
+mod board_tests;
 mod disasm;
 #[cfg(test)]
 mod image_tests;

@@ -1,12 +1,13 @@
-ghost use Rattle.std.specs.Prelude.{◌≡◌, ◌≢◌, Some, IfErr, IfOk, IsErrOf, List, false, is_none, nat_eq, option_map, string_bytes, true};
+ghost use Rattle.std.specs.Prelude.{◌≡◌, ◌≢◌, None, Some, IfErr, IfOk, IsErrOf, List, false, is_none, nat_eq, option_map, string_bytes, true};
 ghost use Rattle.std.specs.List.{list_all};
 ghost use Rattle.fw_types.specs.Commands.{has_legal_budgets};
-ghost use Rattle.fw_types.specs.declared.command.Command.{Command as CommandValue};
+ghost use Rattle.pci_model.specs.BoardRules.{board_fault};
 ghost use Rattle.fw_shelf.specs.Faults.{Rose};
 ghost use Rattle.fw_shelf.specs.Shelf.{Files, file_of};
-ghost use Rattle.replay_shell.specs.Headline.{Ends, EndsWith, answer, file_answer, file_commands, form_of, form_of_verb, form_value, gives_up, script_answer, script_commands, words_in};
+ghost use Rattle.replay_shell.specs.Headline.{Ends, EndsWith, answer, file_answer, file_script, form_of, form_of_verb, form_value, gives_up, read_script, script_answer, words_in};
 ghost use Rattle.replay_shell.specs.OtherTexts.{kind_word, refused_line};
 ghost use Rattle.script_text.specs.ScriptGrammar.{accepted, script_of};
+ghost use Rattle.script_text.specs.declared.script.Script.{Script as ScriptValue};
 
 use crate::disasm::list_image;
 use crate::replay::{Stop, replay};
@@ -61,6 +62,8 @@ fn kind_name(kind: ScriptKind) -> &'static str
         ScriptKind::Missing => "Missing",
         ScriptKind::Extra => "Extra",
         ScriptKind::Number => "Number",
+        ScriptKind::BoardLate => "BoardLate",
+        ScriptKind::Duplicate => "Duplicate",
     }
 }
 
@@ -88,8 +91,8 @@ fn say_refusal<K: Sink>(
     kind: ScriptKind,
     sink: &mut K,
 ) -> Result<u8, Stop>
-    ensures taken { (files : Files) (commands : List CommandValue)
-        → EndsWith (answer 2 (refused_line line kind)) files commands result
+    ensures taken { (files : Files) (script : ScriptValue)
+        → EndsWith (answer 2 (refused_line line kind)) files script result
         (K.taken sink.old) (K.taken sink.new) }
     ensures status { IfOk result (λ answer. answer ≡ 2) }
     ensures no_shelf { IfErr result (λ stop. stop ≢ Stop.Shelf) }
@@ -116,7 +119,7 @@ fn run_bytes<F: Shelf, K: Sink>(
 ) -> Result<u8, Stop>
     ensures taken { (files : Files) → F.files shelf.old ≡ Some files
         → EndsWith (script_answer files (script_of bytes.now)) files
-        (script_commands (script_of bytes.now)) result (K.taken sink.old) (K.taken sink.new) }
+        (read_script (script_of bytes.now)) result (K.taken sink.old) (K.taken sink.new) }
     ensures status { IfOk result
         (λ answer. (gives_up answer ≡ false) × (nat_eq answer 1 ≡ false)) }
     ensures shelf_failed { IsErrOf result Stop.Shelf
@@ -126,28 +129,30 @@ fn run_bytes<F: Shelf, K: Sink>(
     ensures becomes { F.becomes shelf.old shelf.new × K.becomes sink.old sink.new }
 {
     match parse(alloc, bytes) {
-        Ok(script) => run_commands(alloc, &script, shelf, sink),
+        Ok(script) => replay_script(alloc, &script, shelf, sink),
         Err(ScriptFault::Refused { line, kind }) => say_refusal(alloc, line, kind, sink),
         Err(ScriptFault::OutOfMemory) => Err(Stop::Memory),
     }
 }
 
-/// Replays a script.
+/// Replays a script. The lines of its board are one, and the budgets of each command are ones that a
+/// machine may be given.
 ///
 /// # Errors
 ///
 /// - `Shelf` only if the shelf failed.
 /// - `Sink` only if the sink failed.
 /// - `Memory` if there is no memory.
-fn run_commands<F: Shelf, K: Sink>(
+fn replay_script<F: Shelf, K: Sink>(
     alloc: Global,
     script: &Script,
     shelf: &mut F,
     sink: &mut K,
 ) -> Result<u8, Stop>
+    requires board { board_fault script.now.board ≡ None }
     requires budgets { list_all has_legal_budgets script.now.commands ≡ true }
     ensures taken { (files : Files) → F.files shelf.old ≡ Some files
-        → EndsWith (script_answer files (accepted script.now)) files script.now.commands result
+        → EndsWith (script_answer files (accepted script.now)) files script.now result
         (K.taken sink.old) (K.taken sink.new) }
     ensures status { IfOk result (λ answer. answer ≡ 0) }
     ensures shelf_failed { IsErrOf result Stop.Shelf
@@ -175,7 +180,7 @@ fn run_script<F: Shelf, K: Sink>(
 ) -> Result<u8, Stop>
     ensures taken { (files : Files) → F.files shelf.old ≡ Some files
         → EndsWith (file_answer files (file_of files name.now)) files
-        (file_commands (file_of files name.now)) result (K.taken sink.old) (K.taken sink.new) }
+        (file_script (file_of files name.now)) result (K.taken sink.old) (K.taken sink.new) }
     ensures status { IfOk result
         (λ answer. (gives_up answer ≡ false) × (nat_eq answer 1 ≡ false)) }
     ensures shelf_failed { IsErrOf result Stop.Shelf

@@ -140,7 +140,7 @@ fn scripts_are_replayed_or_refused(rt: HostRuntime) -> Result<(), Fail> {
         ("", 0, ""),
         (EACH_COMMAND, 0, EACH_COMMAND_REPORT),
         ("load a.efi\nload a\u{7f}\n", 2, "script 2 NotAscii\n"),
-        ("root 0 0", 2, "script 1 NotBuilt\n"),
+        ("unload 3", 2, "script 1 NotBuilt\n"),
         ("\n\nfly\nload", 2, "script 3 UnknownWord\n"),
         ("load", 2, "script 1 Missing\n"),
         ("dump 3", 2, "script 1 Extra\n"),

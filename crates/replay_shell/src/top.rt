@@ -2,7 +2,7 @@ ghost use Rattle.std.specs.Prelude.{◌≡◌, ◌≤◌, ◌+◌, [], Some, fal
 ghost use Rattle.fw_shelf.specs.Faults.{Rose};
 ghost use Rattle.fw_shelf.specs.Shelf.{Files};
 ghost use Rattle.fw_shelf.specs.Sink.{TakesProperPrefix};
-ghost use Rattle.replay_shell.specs.Headline.{IsAnswered, StopsAtRead, TakesPrefix, commands_for, form_of, gives_up, text_for, words_in};
+ghost use Rattle.replay_shell.specs.Headline.{IsAnswered, StopsAtRead, TakesPrefix, form_of, gives_up, script_for, text_for, words_in};
 
 use crate::replay::Stop;
 use crate::respond::respond;
@@ -16,7 +16,8 @@ use std::alloc::Global;
 /// - 0: done, and the whole report or listing was written;
 /// - 1: the words have no form that the program knows, and the usage line was written;
 /// - 2: the script is refused, and a line was written that says where and why;
-/// - 3: the shelf failed, and the texts of the commands before were written;
+/// - 3: the shelf failed, and nothing was written, or the notes of the board and the texts of the
+///   commands before;
 /// - 4: the sink failed, and a prefix of the text was written;
 /// - 5: out of memory, and a prefix of the text was written;
 /// - 6: there is no file under the name of the script or the image, and a line says so;
@@ -31,11 +32,11 @@ pub fn top<F: Shelf, K: Sink>(alloc: Global, words: &Vec<String>, shelf: &mut F,
     ensures usage { gives_up result ≡ false
         → nat_eq result 1 ≡ is_none (form_of (words_in words.now.items)) }
 
-    // Status 3 comes only if the shelf failed, and the text ends before a command that reads a
-    // file.
+    // Status 3 comes only if the shelf failed. Nothing was taken, or the text ends before a command
+    // that reads a file.
     ensures shelf_failed { result ≡ 3 → Rose (F.faults shelf.old) (F.faults shelf.new) }
     ensures shelf_cuts { (files : Files) → F.files shelf.old ≡ Some files → result ≡ 3
-        → StopsAtRead files (commands_for files (words_in words.now.items))
+        → StopsAtRead files (script_for files (words_in words.now.items))
         (K.taken sink.old) (K.taken sink.new) }
     // Status 4 comes only if the sink failed, and not all of the text was taken.
     ensures sink_failed { result ≡ 4 → Rose (K.faults sink.old) (K.faults sink.new) }

@@ -1,5 +1,6 @@
--- The report: for each command a line with its words, its events, what became of its images, the
--- end of a ROM, a dump, and its status with its units.
+-- The report: first a line for each function of the board whose option ROM could not be read. Then for
+-- each command a line with its words, its events, what became of its images, the end of a ROM, a dump,
+-- and its status with its units.
 use Rattle.std.specs.Prelude.{ℕ, ◌+◌, ◌-◌, List, [], ◌∷◌, ◌++◌, Bool, true, false, Option, Some, None, codes, length, map, replicate}
 use Rattle.std.specs.List.{flat_map, join_with_byte}
 use Rattle.std.specs.Fmt.{decimal, digits}
@@ -23,6 +24,9 @@ use Rattle.fw_types.specs.declared.image.RomEnd.{RomEnd}
 use Rattle.fw_types.specs.declared.image.RomEnd.TheVariants.{Done, BadSignature, BadPcir, LengthZero, PastEnd}
 use Rattle.fw_types.specs.declared.image.ImageNote.{ImageNote}
 use Rattle.fw_types.specs.declared.image.ImageNote.TheVariants.{Loaded, Failed, Refused, Compressed, Skipped}
+use Rattle.fw_types.specs.declared.image.RomNote.{RomNote}
+use Rattle.fw_types.specs.declared.image.RomNoteKind.{RomNoteKind}
+use Rattle.fw_types.specs.declared.image.RomNoteKind.TheVariants.{Missing, TooLong}
 use Rattle.fw_types.specs.declared.dump.DumpLine.{DumpLine}
 use Rattle.fw_types.specs.declared.dump.DumpLine.TheVariants.{Handle, Proto, Entry}
 use Rattle.fw_types.specs.declared.reply.Reply.{Reply}
@@ -91,6 +95,14 @@ end_word BadPcir = codes "BadPcir"
 end_word LengthZero = codes "LengthZero"
 end_word PastEnd = codes "PastEnd"
 
+abbrev pub rom_note_word : RomNoteKind → List ℕ
+rom_note_word Missing = codes "missing"
+rom_note_word TooLong = codes "too-long"
+
+-- where a function is: its bus, its device and its function number
+abbrev pub location_word : (bus device function : ℕ) → List ℕ
+location_word bus device function = decimal bus ++ codes ":" ++ decimal device ++ codes "." ++ decimal function
+
 -- `all` for a recursive connection
 abbrev pub recursion_word : Bool → List ℕ
 recursion_word true = codes "all"
@@ -105,6 +117,13 @@ path_word (Pci device function) = codes "pci:" ++ decimal device ++ codes "." ++
 
 abbrev pub line : List (List ℕ) → List ℕ
 line words = join_with_byte 32 words ++ 10 ∷ []
+
+abbrev pub rom_note_line : RomNote → List ℕ
+rom_note_line note = line (codes "rom" ∷ location_word note.bus note.device note.function ∷ rom_note_word note.kind ∷ [])
+
+-- the text of the opening: the notes, in their order
+abbrev pub boot_text : List RomNote → List ℕ
+boot_text notes = flat_map rom_note_line notes
 
 abbrev pub command_words : Command → List (List ℕ)
 command_words (Load name) = codes "load" ∷ name ∷ []

@@ -1,7 +1,7 @@
 ghost use Rattle.std.specs.Prelude.{◌≡◌, Some};
-ghost use Rattle.report_text.specs.Report.{cause_word, end_word, kind_word, outcome_word, path_word, recursion_word, refusal_word, status_word};
+ghost use Rattle.report_text.specs.Report.{cause_word, end_word, kind_word, outcome_word, path_word, recursion_word, refusal_word, rom_note_word, status_word};
 
-use fw_types::{Cause, EventKind, Outcome, PathArg, PeRefusal, RomEnd, Status};
+use fw_types::{Cause, EventKind, Outcome, PathArg, PeRefusal, RomEnd, RomNoteKind, Status};
 use std::fmt;
 
 /// A status by its name, or by its value if it has no name.
@@ -130,5 +130,15 @@ pub fn end_name(end: RomEnd) -> &'static str
         RomEnd::BadPcir => "BadPcir",
         RomEnd::LengthZero => "LengthZero",
         RomEnd::PastEnd => "PastEnd",
+    }
+}
+
+/// The word for why a function has no option ROM.
+pub fn rom_note_name(kind: RomNoteKind) -> &'static str
+    ensures { result.now ≡ rom_note_word kind }
+{
+    match kind {
+        RomNoteKind::Missing => "missing",
+        RomNoteKind::TooLong => "too-long",
     }
 }

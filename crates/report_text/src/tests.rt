@@ -1,7 +1,7 @@
-use crate::render;
+use crate::{render, render_boot};
 use fw_types::{
     Cause, Command, DumpLine, Event, EventKind, Guid, Handle, ImageNote, Known, OutOfMemory,
-    Outcome, PathArg, PeRefusal, Reply, RomEnd, Rows, Status,
+    Outcome, PathArg, PeRefusal, Reply, RomEnd, RomNote, RomNoteKind, Rows, Status,
 };
 use std::alloc::Global;
 use std::test::Fail;
@@ -138,5 +138,27 @@ fn images_and_statuses_without_a_name(rt: HostRuntime) -> Result<(), Fail> {
     };
     let text = render(rt.alloc(), &command, &reply)?;
     assert_eq!(rt; text.as_str(), IMAGES);
+    Ok(())
+}
+
+#[test]
+fn notes_of_option_roms(rt: HostRuntime) -> Result<(), Fail> {
+    let notes = [
+        RomNote {
+            bus: 0,
+            device: 3,
+            function: 0,
+            kind: RomNoteKind::Missing,
+        },
+        RomNote {
+            bus: 255,
+            device: 31,
+            function: 7,
+            kind: RomNoteKind::TooLong,
+        },
+    ];
+    let text = render_boot(rt.alloc(), &notes)?;
+    assert_eq!(rt; text.as_str(), "rom 0:3.0 missing\nrom 255:31.7 too-long\n");
+    assert_eq!(rt; render_boot(rt.alloc(), &[])?.as_str(), "");
     Ok(())
 }

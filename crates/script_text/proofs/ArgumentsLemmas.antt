@@ -3,7 +3,7 @@ use Rattle.std.proofs.Common.{◌≡◌, ℕ, zero, suc, ◌+◌, ◌<◌, ◌�
 use Rattle.std.proofs.lemmas.Grind.{common_steps}
 use Rattle.text_lines.specs.Words.{word_at}
 use Rattle.script_text.specs.declared.script.ScriptKind.{ScriptKind}
-use Rattle.script_text.specs.ScriptGrammar.{Form, argument_at, is_refused_at, some_refused}
+use Rattle.script_text.specs.Forms.{Form, argument_at, is_refused_at, some_refused}
 
 pub word_at-get : (words : List (List ℕ)) (i : ℕ) → word_at words i ≡ get_or words i []
 word_at-get [] i = refl

@@ -1,4 +1,4 @@
 pub mod ArgumentsLemmas
-pub mod CommandsLemmas
 pub mod NumbersLemmas
 pub mod ScriptLemmas
+pub mod ValuesLemmas

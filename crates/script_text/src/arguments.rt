@@ -1,9 +1,9 @@
 ghost use Rattle.std.specs.Prelude.{◌≡◌, drop};
-ghost use Rattle.script_text.specs.ScriptGrammar.{device_word, form_of, function_word, is_path, is_refused, is_refused_at, path_of, some_refused};
+ghost use Rattle.script_text.specs.Forms.{device_word, form_of, function_word, is_path, is_refused, is_refused_at, path_of, some_refused};
 
+use crate::keyword::{Argument, Keyword, argument_at};
 use crate::numbers::{is_plain_decimal, number_in};
 use crate::script::{MOST_NAME_BYTES, ScriptKind};
-use crate::verb::{Argument, Verb, argument_at};
 use fw_types::PathArg;
 use text_lines::{Words, after_byte, before_byte, is, rest_from};
 
@@ -80,12 +80,12 @@ fn is_refused_at(kind: ScriptKind, argument: Option<Argument>, word: &[u8]) -> b
 
 /// Whether some word after the first is refused for a kind.
 #[tactic(auto, using(crate::proofs::ArgumentsLemmas::arguments_refused))]
-pub fn some_refused(kind: ScriptKind, verb: Verb, words: &Words<'_>) -> bool
-    ensures { result ≡ some_refused kind (form_of verb) 0 (drop 1 words.now) }
+pub fn some_refused(kind: ScriptKind, keyword: Keyword, words: &Words<'_>) -> bool
+    ensures { result ≡ some_refused kind (form_of keyword) 0 (drop 1 words.now) }
 {
     let count = words.len().saturating_sub(1);
     for place in 0..count {
-        if is_refused_at(kind, argument_at(verb, place), words.at(place + 1)) {
+        if is_refused_at(kind, argument_at(keyword, place), words.at(place + 1)) {
             return true;
         }
     }

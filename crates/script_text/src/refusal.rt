@@ -1,19 +1,27 @@
+//! Why a line is refused: the tests of each kind, in the order in which they count.
 ghost use Rattle.std.specs.Prelude.{◌≡◌, drop};
-ghost use Rattle.script_text.specs.ScriptGrammar.{first_kind, form_of, has_too_few_words, has_too_many_words, has_unknown_word, is_not_built, is_too_long, on_verb, some_refused, tests_of};
+ghost use Rattle.script_text.specs.Forms.{form_of, some_refused};
+ghost use Rattle.script_text.specs.ScriptGrammar.{fault_after, first_kind, has_too_few_words, has_too_many_words, has_unknown_word, has_wrong_number, is_fault, is_late, is_not_built, is_too_long, on_keyword, tests_after, tests_alone};
 
 use crate::arguments::some_refused;
-use crate::script::{MOST_LINE_BYTES, MOST_LINES, ScriptKind};
-use crate::verb::{Verb, arguments_needed, handles_after, verb_of};
+use crate::keyword::{Keyword, arguments, handles_after, keyword_of};
+use crate::script::{Item, MOST_LINE_BYTES, MOST_LINES, Script, ScriptKind};
+use pci_model::{LineFault, line_fault};
 use text_lines::{Words, is, is_text};
 
-/// Whether a line with this verb has a word that is refused for a kind, or the answer for a line
-/// without a verb.
-fn refuses_word(kind: ScriptKind, verb: Option<Verb>, words: &Words<'_>, without: bool) -> bool
-    ensures { result
-        ≡ on_verb without (λ verb. some_refused kind (form_of verb) 0 (drop 1 words.now)) verb }
+/// Whether a line with this keyword has a word that is refused for a kind, or the answer for a line
+/// without a keyword.
+fn refuses_word(
+    kind: ScriptKind,
+    keyword: Option<Keyword>,
+    words: &Words<'_>,
+    without: bool,
+) -> bool
+    ensures { result ≡ on_keyword without
+        (λ keyword. some_refused kind (form_of keyword) 0 (drop 1 words.now)) keyword }
 {
-    match verb {
-        Some(verb) => some_refused(kind, verb, words),
+    match keyword {
+        Some(keyword) => some_refused(kind, keyword, words),
         None => without,
     }
 }
@@ -24,20 +32,14 @@ fn is_too_long(number: u32, line: &[u8], words: &Words<'_>) -> bool
 {
     line.len() > MOST_LINE_BYTES
         || number > MOST_LINES
-        || refuses_word(ScriptKind::TooLong, verb_of(words), words, false)
+        || refuses_word(ScriptKind::TooLong, keyword_of(words), words, false)
 }
 
 /// Whether the first word is one of which nothing is built so far.
 fn is_not_built(words: &Words<'_>) -> bool
     ensures { result ≡ is_not_built words.now }
 {
-    let word = words.at(0);
-    is(word, "root")
-        || is(word, "func")
-        || is(word, "bridge")
-        || is(word, "bar")
-        || is(word, "rom")
-        || is(word, "unload")
+    is(words.at(0), "unload")
 }
 
 /// Whether a line has a first word, a word for recursion or a word for a path that the grammar does
@@ -45,34 +47,74 @@ fn is_not_built(words: &Words<'_>) -> bool
 fn has_unknown_word(words: &Words<'_>) -> bool
     ensures { result ≡ has_unknown_word words.now }
 {
-    words.len() != 0 && refuses_word(ScriptKind::UnknownWord, verb_of(words), words, true)
+    words.len() != 0 && refuses_word(ScriptKind::UnknownWord, keyword_of(words), words, true)
 }
 
-/// Whether a line has fewer words than its verb needs.
+/// Whether a line has fewer words than its keyword needs.
 fn has_too_few_words(words: &Words<'_>) -> bool
     ensures { result ≡ has_too_few_words words.now }
 {
-    match verb_of(words) {
-        Some(verb) => words.len().saturating_sub(1) < arguments_needed(verb),
+    match keyword_of(words) {
+        Some(keyword) => words.len().saturating_sub(1) < arguments(keyword).len(),
         None => false,
     }
 }
 
-/// Whether a line has more words than its verb takes.
+/// Whether a line has more words than its keyword takes.
 fn has_too_many_words(words: &Words<'_>) -> bool
     ensures { result ≡ has_too_many_words words.now }
 {
-    match verb_of(words) {
-        Some(verb) => {
-            words.len().saturating_sub(1) > arguments_needed(verb) + handles_after(verb)
+    match keyword_of(words) {
+        Some(keyword) => {
+            words.len().saturating_sub(1) > arguments(keyword).len() + handles_after(keyword)
         }
         None => false,
     }
 }
 
-/// The first kind for which a line is refused, if there is one.
-pub fn refusal(number: u32, line: &[u8], words: &Words<'_>) -> Option<ScriptKind>
-    ensures { result ≡ first_kind (tests_of number line.now words.now) }
+/// Whether a number of a line is malformed or out of its range.
+fn has_wrong_number(words: &Words<'_>) -> bool
+    ensures { result ≡ has_wrong_number words.now }
+{
+    refuses_word(ScriptKind::Number, keyword_of(words), words, false)
+}
+
+/// The first rule of boards that a line of the board breaks after those of the script before it.
+fn fault_after(before: &Script, item: &Option<Item>) -> Option<LineFault>
+    ensures { result ≡ fault_after before.now item.now }
+{
+    match item {
+        Some(Item::Board(line)) => line_fault(before.board.as_slice(), line),
+        _ => None,
+    }
+}
+
+/// Whether a fault is of a kind.
+fn is_fault(kind: LineFault, fault: Option<LineFault>) -> bool
+    ensures { result ≡ is_fault kind fault }
+{
+    match (kind, fault) {
+        (LineFault::Extra, Some(LineFault::Extra)) => true,
+        (LineFault::Number, Some(LineFault::Number)) => true,
+        (LineFault::Duplicate, Some(LineFault::Duplicate)) => true,
+        _ => false,
+    }
+}
+
+/// Whether a line is one of the board, and comes after a command.
+fn is_late(before: &Script, item: &Option<Item>) -> bool
+    ensures { result ≡ is_late before.now item.now }
+{
+    match item {
+        Some(Item::Board(_)) => !before.commands.as_slice().is_empty(),
+        _ => false,
+    }
+}
+
+/// The first kind from `TooLong` to `Missing` for which a line with this number is refused, if there
+/// is one.
+pub fn refusal_alone(number: u32, line: &[u8], words: &Words<'_>) -> Option<ScriptKind>
+    ensures { result ≡ first_kind (tests_alone number line.now words.now) }
 {
     if is_too_long(number, line, words) {
         return Some(ScriptKind::TooLong);
@@ -89,11 +131,26 @@ pub fn refusal(number: u32, line: &[u8], words: &Words<'_>) -> Option<ScriptKind
     if has_too_few_words(words) {
         return Some(ScriptKind::Missing);
     }
-    if has_too_many_words(words) {
+    None
+}
+
+/// The first kind from `Extra` to `Duplicate` for which a line is refused after a script, if there
+/// is one.
+pub fn refusal_after(before: &Script, words: &Words<'_>, item: &Option<Item>) -> Option<ScriptKind>
+    ensures { result ≡ first_kind (tests_after before.now words.now item.now) }
+{
+    let fault = fault_after(before, item);
+    if has_too_many_words(words) || is_fault(LineFault::Extra, fault) {
         return Some(ScriptKind::Extra);
     }
-    if refuses_word(ScriptKind::Number, verb_of(words), words, false) {
+    if has_wrong_number(words) || is_fault(LineFault::Number, fault) {
         return Some(ScriptKind::Number);
+    }
+    if is_late(before, item) {
+        return Some(ScriptKind::BoardLate);
+    }
+    if is_fault(LineFault::Duplicate, fault) {
+        return Some(ScriptKind::Duplicate);
     }
     None
 }

@@ -2,6 +2,7 @@ ghost use Rattle.std.specs.Prelude.{◌≡◌};
 ghost use Rattle.script_text.specs.declared.script.ScriptFault.TheVariants.{OutOfMemory};
 
 use fw_types::{Command, Rows};
+use pci_model::BoardLine;
 use thiserror::Error;
 
 /// The most bytes of a line.
@@ -16,32 +17,48 @@ pub const MOST_NAME_BYTES: usize = 255;
 /// The most handles in the list at the end of a line.
 pub const MOST_LISTED_HANDLES: usize = 64;
 
-/// A script.
+/// A script: the board on which it is replayed, and what is asked for.
 #[derive(Debug, PartialEq, Drop)]
 pub struct Script {
+    /// The lines of the board, in their order.
+    pub board: Rows<BoardLine>,
     /// The commands, in the order of their lines.
     pub commands: Rows<Command>,
+}
+
+/// What a line gives.
+#[derive(Debug, PartialEq, Drop)]
+pub enum Item {
+    /// A line of the board.
+    Board(BoardLine),
+    /// A command.
+    Command(Command),
 }
 
 /// Why a line is refused, in the order in which the kinds count.
 #[derive(Clone, Copy, Debug, PartialEq, Eq)]
 pub enum ScriptKind {
-    /// The line has over 1,024 bytes, its number is over 100,000, or the name of a load has over
-    /// 255 bytes.
+    /// The line has over 1,024 bytes, its number is over 100,000, or the name of a file in it has
+    /// over 255 bytes.
     TooLong,
     /// A byte is neither a tab nor a printable ASCII character.
     NotAscii,
-    /// The line asks for something that is not built so far: its first word is `root`, `func`,
-    /// `bridge`, `bar`, `rom` or `unload`.
+    /// The line asks for something that is not built so far: its first word is `unload`.
     NotBuilt,
     /// The first word, or the word for recursion or for a path, is not one that the grammar has.
     UnknownWord,
     /// The line has too few words.
     Missing,
-    /// The line has too many words, or a list of over 64 handles.
+    /// The line has too many words, or a list of over 64 handles, or it is a 17th `root` line or
+    /// gives a 257th function.
     Extra,
-    /// A number is malformed, does not fit in 64 bits or is out of its range.
+    /// A number is malformed, does not fit in 64 bits or is out of its range, or no line before
+    /// declares the bus or the function.
     Number,
+    /// It is a line of the board after a command.
+    BoardLate,
+    /// It declares a bus, or gives a function, a BAR or an option ROM, a second time.
+    Duplicate,
 }
 
 /// Why a script was not read.
@@ -51,7 +68,7 @@ pub enum ScriptFault {
     /// for it.
     #[error("a line is refused")]
     Refused { line: u32, kind: ScriptKind },
-    /// There was no memory for its commands.
+    /// There was no memory for its lines.
     #[error("out of memory")]
     OutOfMemory,
 }

@@ -1,49 +1,34 @@
-use Rattle.std.proofs.Common.{◌≡◌, ◌<◌, ◌≤◌, List, Err, arith, length, rules, sym, subst, ◌∙◌, get_or}
+use Rattle.std.proofs.Common.{◌≡◌, List, ℕ, Err, ap, rules, subst, ◌∙◌}
+use Rattle.std.proofs.lemmas.Result.{err_from_is_err_and}
 use Rattle.fw_types.specs.declared.command.Command.{Command}
-use Rattle.replay_shell.specs.declared.replay.Stop.TheVariants.{Memory}
-use Rattle.replay_shell.proofs.ReplayLemmas.{SoFar-end, SoFar-more, is_at, stopped-here, with_bytes-nil}
+use Rattle.fw_shelf.specs.Sink.{TakesProperPrefix, with_bytes}
+use Rattle.bind_engine.specs.Machine.{MachineView}
+use Rattle.replay_shell.specs.declared.replay.Stop.TheVariants.{Sink}
+use Rattle.replay_shell.specs.Headline.{opening_text}
+use Rattle.replay_shell.specs.Replay.{TakesTurns}
+use Rattle.replay_shell.proofs.ReplayLemmas.{commands-end, notes-stopped, nothing-taken}
 use Rattle.replay_shell.proofs.replay.replay.Goals as goal
 
--- no memory for the opening state
+-- the machine did not begin
 pub returns-in_err-machine-clause-taken : goal.returns-in_err-machine-clause-taken
 returns-in_err-machine-clause-taken g c = λ files known.
-    let stopped : c.from_residual.result ≡ Err Memory = search rules in
-    rw stopped (0, sym (with_bytes-nil (g.K.Sink.taken c.args.sink.now)))
+    let stopped : c.from_residual.result ≡ Err c.in_err-machine.field-0.0 = search rules in
+    rw stopped (nothing-taken files c.args.script.now c.in_err-machine.field-0.0 _ c.in_err-machine.ensures.no_sink)
 
-pub returns-in_err-machine-2-clause-taken : goal.returns-in_err-machine-2-clause-taken
-returns-in_err-machine-2-clause-taken g c = λ files known.
-    let commands = c.args.script.now.commands in
-    let i = c.loop-command.command-index in
-    let listed : c.as_slice-command-items.result.now ≡ commands = c.as_slice-command-items.ensures in
-    let within : i < length commands = subst (λ (xs : List Command). i < length xs) listed c.loop-command-test.true in
-    let is : c.command-item.result ≡ get_or commands i c.command-item.result = subst (λ (xs : List Command). c.command-item.result ≡ get_or xs i c.command-item.result) listed c.command-item.is in
-    let there = is_at commands i c.command-item.result within is in
-    let stopped : c.from_residual-in_err-machine-2.result ≡ Err c.in_err-machine-2.field-0.0 = search rules in
-    rw stopped (stopped-here files commands i c.loop-command.machine _ _ _ c.command-item.result c.in_err-machine-2.field-0.0 (c.loop-command.invariant.taken files known) there (c.in_err-machine-2.ensures.taken files (c.loop-command.invariant.same_files ∙ known)))
+-- a prefix of the notes was written
+pub returns-in_err-write_all-clause-taken : goal.returns-in_err-write_all-clause-taken
+returns-in_err-write_all-clause-taken g c = λ files known.
+    let exit = err_from_is_err_and c.from_residual-in_err-write_all.result c.from_residual-in_err-write_all.ensures.1 in
+    let stopped : c.from_residual-in_err-write_all.result ≡ Err Sink = exit.1 ∙ ap Err exit.2 in
+    let written : c.as_bytes.result.now ≡ opening_text files c.args.script.now = c.as_bytes.ensures.value ∙ c.in_ok-machine.ensures.notes files known in
+    rw stopped (notes-stopped files c.args.script.now _ _
+    (subst (λ (text : List ℕ). TakesProperPrefix (g.K.Sink.taken c.args.sink.now) text (g.K.Sink.taken c.write_all.new.sink)) written c.in_err-write_all.ensures.prefix))
 
-pub loop-command-preserved : goal.loop-command-preserved
-loop-command-preserved g c =
-    let commands = c.args.script.now.commands in
-    let i = c.loop-command.command-index in
-    let listed : c.as_slice-command-items.result.now ≡ commands = c.as_slice-command-items.ensures in
-    let within : i < length commands = subst (λ (xs : List Command). i < length xs) listed c.loop-command-test.true in
-    let is : c.command-item.result ≡ get_or commands i c.command-item.result = subst (λ (xs : List Command). c.command-item.result ≡ get_or xs i c.command-item.result) listed c.command-item.is in
-    let there = is_at commands i c.command-item.result within is in
-    let before = c.loop-command.invariant in
-    record {
-      taken = λ files known.
-          let took = c.in_ok-machine-2.ensures.taken files (before.same_files ∙ known) in
-          SoFar-more files commands i c.loop-command.machine c.in_ok-machine-2.machine _ _ _ c.command-item.result (before.taken files known) there took.0 took.1;
-      same_files = c.take_turn.ensures.same_files ∙ before.same_files;
-      shelf_faults = omega (arith, c.take_turn.ensures.shelf_faults);
-      sink_faults = omega (arith, c.take_turn.ensures.sink_faults);
-      shelf_becomes = g.met.F.Shelf.becomes_again c.args.shelf.now c.loop-command.shelf c.take_turn.new.shelf before.shelf_becomes c.take_turn.ensures.becomes.0;
-      sink_becomes = g.met.K.Sink.becomes_again c.args.sink.now c.loop-command.sink c.take_turn.new.sink before.sink_becomes c.take_turn.ensures.becomes.1;
-    }
-
+-- the notes were written, and then the texts of the commands
 pub returns-clause-taken : goal.returns-clause-taken
 returns-clause-taken g c = λ files known.
-    let commands = c.args.script.now.commands in
-    let i = c.loop-command.command-index in
-    let past : length commands ≤ i = subst (λ (xs : List Command). length xs ≤ i) c.as_slice-command-items.ensures c.loop-command-test.false in
-    SoFar-end files commands i c.loop-command.machine _ _ past (c.loop-command.invariant.taken files known)
+    let written : c.as_bytes.result.now ≡ opening_text files c.args.script.now = c.as_bytes.ensures.value ∙ c.in_ok-machine.ensures.notes files known in
+    let took = c.take_turns.ensures.taken files (c.boot.ensures.same_files ∙ known) in
+    commands-end files c.args.script.now c.take_turns.result _ _ _ (c.in_ok-write_all.ensures.ok ∙ ap (with_bytes (g.K.Sink.taken c.args.sink.now)) written)
+    (subst (λ (machine : MachineView). TakesTurns files machine c.args.script.now.commands c.take_turns.result (g.K.Sink.taken c.write_all.new.sink) (g.K.Sink.taken c.take_turns.new.sink)) (c.in_ok-machine.ensures.machine files known)
+    (subst (λ (commands : List Command). TakesTurns files c.in_ok-machine.machine commands c.take_turns.result (g.K.Sink.taken c.write_all.new.sink) (g.K.Sink.taken c.take_turns.new.sink)) c.as_slice.ensures took))

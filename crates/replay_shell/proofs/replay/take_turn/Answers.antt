@@ -1,13 +1,20 @@
-use Rattle.std.proofs.Common.{◌≡◌, ℕ, List, Err, sym, ap, subst, ◌∙◌}
+use Rattle.std.proofs.Common.{◌≡◌, ℕ, List, Err, refl, sym, ap, subst, ◌∙◌}
 use Rattle.std.proofs.lemmas.Result.{err_from_is_err_and}
 use Rattle.fw_types.specs.declared.reply.Reply.{Reply}
 use Rattle.fw_shelf.specs.Sink.{TakesProperPrefix, with_bytes}
 use Rattle.report_text.specs.Report.{reply_text}
 use Rattle.bind_engine.specs.Machine.{MachineView}
 use Rattle.bind_engine.specs.Commands.{exec}
-use Rattle.replay_shell.specs.declared.replay.Stop.TheVariants.{Sink}
+use Rattle.replay_shell.specs.declared.replay.Stop.TheVariants.{Memory, Sink}
 use Rattle.replay_shell.specs.Replay.{text_of}
 use Rattle.replay_shell.proofs.replay.take_turn.Goals as goal
+
+-- out of memory: nothing was written
+pub returns-in_err-text-clause-taken : goal.returns-in_err-text-clause-taken
+returns-in_err-text-clause-taken g c = λ files known.
+    let exit = err_from_is_err_and c.from_residual-in_err-text.result c.from_residual-in_err-text.ensures.1 in
+    let stopped : c.from_residual-in_err-text.result ≡ Err Memory = exit.1 ∙ ap Err exit.2 in
+    rw stopped refl
 
 -- what was written is a prefix of the command's text
 pub returns-in_err-write_all-clause-taken : goal.returns-in_err-write_all-clause-taken

@@ -1,16 +1,10 @@
-use Rattle.std.proofs.Common.{◌≡◌, ◌+◌, ◌≤◌, length}
-use Rattle.std.specs.Str.Lines.{lines}
-use Rattle.script_text.specs.declared.script.TheConstants.{MOST_LINES}
-use Rattle.script_text.specs.ScriptGrammar.{script_of}
-use Rattle.script_text.proofs.ScriptLemmas.{script_from}
+use Rattle.std.proofs.Common.{length}
+use Rattle.script_text.proofs.ScriptLemmas.{ReadSoFar}
 use Rattle.script_text.proofs.read.parse.Given as goal
 
--- the commands so far and the lines that are left make the script that all lines make
+-- the lines before those that are left were read
 abbrev pub invariant-loop-text : goal.invariant-loop-text
-invariant-loop-text l = record {
-  same : script_of l.bytes ≡ script_from l.commands.items l.number (lines l.text);
-  small : l.number ≤ MOST_LINES + 1;
-}
+invariant-loop-text l = ReadSoFar l.bytes l.text l.script l.number
 
 abbrev pub decreases-loop-text : goal.decreases-loop-text
 decreases-loop-text l = length l.text

@@ -1,7 +1,7 @@
 use Rattle.std.proofs.Common.{◌≡◌, ◌+◌, ◌++◌, [], ◌∷◌, append_assoc, arith}
 use Rattle.script_text.specs.ScriptGrammar.{handle_at, handles_from}
-use Rattle.script_text.proofs.CommandsLemmas.{handles_from-more}
-use Rattle.script_text.proofs.commands.handles_from.Goals as goal
+use Rattle.script_text.proofs.ValuesLemmas.{handles_from-more}
+use Rattle.script_text.proofs.values.handles_from.Goals as goal
 
 pub loop-i-preserved : goal.loop-i-preserved
 loop-i-preserved c =

@@ -1,6 +1,6 @@
 use Rattle.std.proofs.lemmas.Str.{IsUtf8-from_ascii}
 use Rattle.script_text.proofs.ScriptLemmas.{IsAscii-text}
-use Rattle.script_text.proofs.commands.text.Goals as goal
+use Rattle.script_text.proofs.values.text.Goals as goal
 
 -- text is ASCII, and so UTF-8
 pub unreachable-requires : goal.unreachable-requires
