@@ -3,6 +3,7 @@
 -- after it. The first line that is refused counts, and its first kind from left to right.
 use Rattle.std.specs.Prelude.{◌≡◌, ℕ, ◌+◌, ◌-◌, ◌*◌, ◌/◌, ◌%◌, ◌^◌, Bool, false, not, ◌&&◌, ◌||◌, nat_eq, nat_lt, nat_le, bit_and, bit_or, bytes_eq, codes, List, [], ◌∷◌, ◌++◌, length, take, drop, filter, find, slice_index, Option, Some, None, is_some, Result, Ok, Err, Vec, if◌then◌else◌}
 use Rattle.std.specs.declared.alloc.Global.{Global}
+use Rattle.std.specs.Option.{option_map, option_map_or}
 use Rattle.std.specs.List.{after_first, before_first, list_all, list_any, slice_split, starts_with}
 use Rattle.std.specs.Char.{digit_value}
 use Rattle.std.specs.Str.Lines.{lines}
@@ -401,9 +402,21 @@ bytes_from labels number place [] = Ok []
 bytes_from labels number place (line ∷ later) =
     before number (placed_bytes_of_line labels number place line) (bytes_from labels (number + 1) (place + line_size line) later)
 
+-- the labels of a text with their places
+abbrev pub labels_of : List ℕ → List Label
+labels_of text = labels_from 1 0 (lines text)
+
 -- the bytes of a text, or the first line that is refused, counted from 1, with its kind
 abbrev pub assembly_of : List ℕ → Result (List ℕ) (ℕ × AsmKind)
-assembly_of text = bytes_from (labels_from 1 0 (lines text)) 1 0 (lines text)
+assembly_of text = bytes_from (labels_of text) 1 0 (lines text)
+
+-- the place of the first label of a name in a text, from the first byte on
+abbrev pub place_of_label : List ℕ → List ℕ → Option ℕ
+place_of_label text name = option_map (λ label. label.place) (label_by (labels_of text) name)
+
+-- whether a line is the label of a name
+abbrev pub is_label : List ℕ → List ℕ → Bool
+is_label name line = option_map_or (λ found. bytes_eq found name) (label_of (code_of line)) false
 
 -- an answer to a line is that, unless memory ran out
 abbrev pub GivesLine : Result (Vec ℕ Global) LineFault → Result (List ℕ) AsmKind → Type 0

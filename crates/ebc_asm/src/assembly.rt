@@ -1,6 +1,7 @@
-ghost use Rattle.std.specs.Prelude.{◌≡◌, ◌<◌, ◌≤◌, ◌+◌, ◌*◌, ◌^◌, ◌++◌, Err, IfOk, MatchResult, Ok, OnOk, length};
+ghost use Rattle.std.specs.Prelude.{◌≡◌, ◌<◌, ◌≤◌, ◌+◌, ◌*◌, ◌^◌, ◌++◌, Err, IfOk, MatchResult, Ok, OnOk, is_some, length};
 ghost use Rattle.std.specs.Str.Lines.{lines};
-ghost use Rattle.ebc_asm.specs.Assembly.{Gives, GivesLine, assembly_of, bytes_from, code_of, fault_of, is_repeated, label_at, label_of, labels_from, placed_bytes_of_line, line_size};
+ghost use Rattle.std.specs.List.{list_any};
+ghost use Rattle.ebc_asm.specs.Assembly.{Gives, GivesLine, assembly_of, bytes_from, code_of, fault_of, is_label, is_repeated, label_at, label_of, labels_of, place_of_label, placed_bytes_of_line, line_size};
 
 use crate::fault::{AsmFault, AsmKind};
 use crate::labels::{Labels, Scope, label_of};
@@ -42,7 +43,7 @@ fn keep_label<'a>(
 /// The labels of a text with their places.
 fn labels_of<'a>(alloc: Global, text: &'a [u8]) -> Result<Labels<'a>, OutOfMemory>
     requires { length text.now < 2 ^ 32 }
-    ensures { IfOk result (λ labels. labels ≡ labels_from 1 0 (lines text.now)) }
+    ensures { IfOk result (λ labels. labels ≡ labels_of text.now) }
 {
     let mut labels = Labels::new(alloc);
     let mut rest = text;
@@ -148,4 +149,21 @@ pub fn assemble(alloc: Global, text: &str) -> Result<Vec<u8>, AsmFault>
     let text = text.as_bytes();
     let labels = labels_of(alloc, text)?;
     bytes_of_text(alloc, &labels, text)
+}
+
+/// The place of a label in the bytes of a text: how many bytes come before it. `None` if no line of
+/// the text is that label. If several lines are, the first counts.
+///
+/// # Errors
+///
+/// `OutOfMemory` if there is no memory for the labels.
+pub fn place_of_label(alloc: Global, text: &str, name: &str) -> Result<Option<u64>, OutOfMemory>
+    // Lines and bytes can be counted.
+    requires len { length text.now < 2 ^ 32 }
+    ensures place { IfOk result (λ place. place ≡ place_of_label text.now name.now) }
+    ensures found { IfOk result (λ place.
+        is_some place ≡ list_any (is_label name.now) (lines text.now)) }
+{
+    let labels = labels_of(alloc, text.as_bytes())?;
+    Ok(labels.place_by(name.as_bytes()))
 }

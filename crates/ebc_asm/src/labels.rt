@@ -53,7 +53,7 @@ impl<'a> Labels<'a> {
     }
 
     /// The place of the first label of a name.
-    fn place_by(&self, name: &[u8]) -> Option<u64>
+    pub fn place_by(&self, name: &[u8]) -> Option<u64>
         ensures { result ≡ option_map (λ label. label.place) (label_by self.now name.now) }
     {
         place_in(self.items.as_slice(), name)

@@ -129,7 +129,7 @@ part_reads_at last part tail fits =
           (ap (λ (n : ℕ). nat_eq n 0) size ∙ not_none units enough.some)
           (ap (λ (n : ℕ). nat_lt (length rest) n) size ∙ not_under (length rest) (512 * units) long);
       marked = reads.marked;
-      image = rw (reads.efi, reads.machine, reads.compression, body, reads.code_type, reads.vendor fits.vendor, reads.device fits.device, reads.class fits.class) refl;
+      image = rw (reads.efi, reads.machine, reads.compression, body, reads.code_type, reads.vendor fits.vendor, reads.device fits.device, reads.class fits.class, size) refl;
       following = rw size (ap (drop (512 * units)) whole ∙ drop_at (front ++ padded_body part.body) tail (512 * units) laid);
     }
 

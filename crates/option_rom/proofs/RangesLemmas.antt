@@ -4,7 +4,7 @@ use Rattle.std.proofs.lemmas.List.{drop-drop}
 use Rattle.fw_types.specs.declared.image.RomEnd.{RomEnd}
 use Rattle.fw_types.specs.declared.image.RomEnd.TheVariants.{Done}
 use Rattle.option_rom.specs.RomGrammar.{end_at, image_at, image_length, is_last, rom_from, rom_in}
-use Rattle.option_rom.specs.RomRanges.{EndsAs, IsImage, IsRomFrom, OnlyLastSaysSo, Range, place_after, range_end, images_in, last_says_so, says_last}
+use Rattle.option_rom.specs.RomRanges.{AreImages, EndsAs, IsImage, IsRomFrom, LieInARow, OnlyLastSaysSo, Range, place_after, range_end, images_in, last_says_so, ranges_from, says_last}
 use Rattle.option_rom.specs.RomRead.{HasImage}
 use Rattle.option_rom.proofs.RomLemmas.{end_at-none, rom_in-step}
 
@@ -167,3 +167,17 @@ divided zero place rom h =
 divided (suc most) place rom h =
     divided_here place rom (end_at (drop place rom)) (is_last (drop place rom)) refl refl (λ stands.
     divided most (place + image_length (drop place rom)) rom (omega (arith, h, stands.some, stands.inside, length-drop place rom)))
+
+-- ---- where the images lie
+
+range-is : (range : Range) (place size : ℕ) → range.at ≡ place → range.size ≡ size → range ≡ record { at = place; size = size }
+range-is range place size at is = rw (sym at, sym is) refl
+
+pub ranges-by_sizes : (place : ℕ) (rom : List ℕ) (ranges : List Range) → LieInARow place ranges → AreImages rom ranges → ranges ≡ ranges_from place (images_in rom ranges)
+ranges-by_sizes place rom [] row images = refl
+ranges-by_sizes place rom (range ∷ ranges) row images =
+    let size = image_length (drop range.at rom) in
+    let rest : ranges ≡ ranges_from (range_end range) (images_in rom ranges) = ranges-by_sizes (range_end range) rom ranges row.1 images.1 in
+    let place_is : range_end range ≡ place + size = ap (λ (n : ℕ). n + range.size) row.0 ∙ ap (λ (n : ℕ). place + n) images.0.size in
+    ap (λ (r : Range). r ∷ ranges) (range-is range place size row.0 images.0.size)
+    ∙ ap (λ (rs : List Range). record { at = place; size = size } ∷ rs) (rest ∙ ap (λ (n : ℕ). ranges_from n (images_in rom ranges)) place_is)

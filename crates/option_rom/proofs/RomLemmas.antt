@@ -4,7 +4,7 @@ use Rattle.std.specs.Prelude.{option_map}
 use Rattle.std.proofs.lemmas.Bool.Decides.{nat_tests}
 use Rattle.fw_types.specs.declared.image.RomEnd.{RomEnd}
 use Rattle.fw_types.specs.Layout.{uint16_at}
-use Rattle.option_rom.specs.RomGrammar.{Condition, Image, Rom, end_at, has_no_length, image_at, image_length, is_cut_off, is_last, lacks_header, lacks_pcir, pcir_place, rom_from, rom_in, rom_within, pcir}
+use Rattle.option_rom.specs.RomGrammar.{Condition, Image, Rom, end_at, has_no_length, image_at, image_length, is_cut_off, is_last, lacks_header, lacks_pcir, pcir_place, rom_from, rom_in, rom_within, pcir, size_of_images}
 use Rattle.option_rom.specs.RomRead.{HasImage}
 use Rattle.option_rom.specs.RomWalk.{Walk, walk_of, walk_at}
 use Rattle.option_rom.specs.declared.walk.Place.{Place}
@@ -99,6 +99,27 @@ images-within (suc most) rest =
 pub images-most : (bytes : List ℕ) → 512 * length (rom_in bytes).images ≤ length bytes
 unfolding rom_in
 images-most bytes = images-within (length bytes) bytes
+
+-- ---- how many bytes they have together
+
+sizes-more : (end : Option RomEnd) (last : Bool) (image : Image) (more : Rom) (rest : List ℕ) → (end ≡ None → image.size ≤ length rest) → size_of_images more.images ≤ length rest - image.size
+    → size_of_images (rom_from end last image more).images ≤ length rest
+sizes-more (Some end) last image more rest stands fewer = omega arith
+sizes-more None true image more rest stands fewer = let room = stands refl in omega (arith, room)
+sizes-more None false image more rest stands fewer = let room = stands refl in omega (arith, room, fewer)
+
+sizes-within : (most : ℕ) (rest : List ℕ) → size_of_images (rom_within most rest).images ≤ length rest
+unfolding rom_within
+sizes-within zero rest = omega arith
+sizes-within (suc most) rest =
+    let following = drop (image_length rest) rest in
+    sizes-more (end_at rest) (is_last rest) (image_at rest) (rom_within most following) rest
+    (λ none. (end_at-none rest none).inside)
+    (omega (arith, sizes-within most following, length-drop (image_length rest) rest))
+
+pub images-fit : (bytes : List ℕ) → size_of_images (rom_in bytes).images ≤ length bytes
+unfolding rom_in
+images-fit bytes = sizes-within (length bytes) bytes
 
 -- ---- a step of the walk
 

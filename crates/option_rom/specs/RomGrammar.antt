@@ -65,6 +65,8 @@ end_at rest = option_map (λ condition. condition.end) (find (λ condition. cond
 -- ---- what an image says
 
 pub record Image : Type 0 where
+  -- how many bytes it has in the ROM
+  pub size : ℕ
   pub vendor : ℕ
   pub device : ℕ
   pub class : ℕ
@@ -89,6 +91,7 @@ image_bytes rest = take (image_length rest) rest
 -- machine, its compression, and where its body begins; the body of another image is the whole image
 abbrev pub image_at : List ℕ → Image
 image_at rest = record {
+  size = image_length rest;
   vendor = uint16_at 4 (pcir rest);
   device = uint16_at 6 (pcir rest);
   class = little_number 3 (drop 13 (pcir rest));
@@ -99,6 +102,11 @@ image_at rest = record {
 }
 
 -- ---- the ROM
+
+-- how many bytes images have together
+abbrev pub size_of_images : List Image → ℕ
+size_of_images [] = 0
+size_of_images (image ∷ images) = image.size + size_of_images images
 
 -- images, and how the ROM ends
 pub record Rom : Type 0 where

@@ -106,6 +106,7 @@ RefusesFor fault (Err OutOfMemory) = fault ≡ None
 -- what the image of a part says
 abbrev pub image_of : RomPart → Image
 image_of part = record {
+  size = 512 * units_of part.body;
   vendor = part.vendor;
   device = part.device;
   class = part.class;

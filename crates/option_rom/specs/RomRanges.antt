@@ -67,3 +67,8 @@ IsRom rom ranges end = IsRomFrom 0 rom ranges end
 -- what the images in ranges say
 abbrev pub images_in : List ℕ → List Range → List Image
 images_in rom ranges = map (λ range. image_at (drop range.at rom)) ranges
+
+-- the ranges of images that follow one another from a place on
+abbrev pub ranges_from : ℕ → List Image → List Range
+ranges_from place [] = []
+ranges_from place (image ∷ images) = record { at = place; size = image.size } ∷ ranges_from (place + image.size) images

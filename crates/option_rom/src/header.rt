@@ -123,6 +123,7 @@ pub fn image_at(rest: &[u8]) -> RomImage<'_>
     let pcir = pcir(rest);
     let efi = is_efi(rest);
     RomImage {
+        size: image_length(rest),
         vendor: LittleEndian::read_u16(&pcir[4..]),
         device: LittleEndian::read_u16(&pcir[6..]),
         class: LittleEndian::read_u24(&pcir[13..]),

@@ -4,6 +4,8 @@ use std::marker::Model;
 /// fields, the body as a list.
 #[derive(Debug, Drop)]
 pub struct RomImage<'a> {
+    /// How many bytes the image has in the ROM, a multiple of 512. The next image follows it.
+    pub size: usize,
     /// The vendor ID of the device that the image is for.
     pub vendor: u16,
     /// The device ID of that device.
@@ -28,6 +30,7 @@ impl<'a> Model for RomImage<'a> {
     ghost Value = { Image };
 
     ghost view = { λ image. record {
+      size = image.size;
       vendor = image.vendor;
       device = image.device;
       class = image.class;

@@ -155,15 +155,18 @@ fn three_images_are_walked(rt: HostRuntime) -> Result<(), Fail> {
     let plain = walk.next().ok_or("no first image")?;
     assert_eq!(rt; fields(&plain), (0x8086, 0x100E, 0x020000, 0, 0, 0));
     assert_eq!(rt; Some(plain.body), rom.get(..512));
+    assert_eq!(rt; plain.size, 512);
     let compressed = walk.next().ok_or("no second image")?;
     assert_eq!(rt;
         fields(&compressed),
         (0x8086, 0x100E, 0x020201, 3, 0x0EBC, 1)
     );
     assert_eq!(rt; Some(compressed.body), rom.get(576..1024));
+    assert_eq!(rt; compressed.size, 512);
     assert_eq!(rt; walk.end(), None);
     let driver = walk.next().ok_or("no third image")?;
     assert_eq!(rt; fields(&driver), (0x1AF4, 0x1000, 0x010203, 3, 0x0EBC, 0));
+    assert_eq!(rt; driver.size, 1536);
     assert_eq!(rt;
         driver.body.get(..1024),
         Some(smallest(rt.alloc())?.as_slice())

@@ -1,6 +1,6 @@
 ghost use Rattle.std.specs.Prelude.{◌≡◌, ◌*◌, ◌≤◌, ◌||◌, is_none, length, if◌then◌else◌};
 ghost use Rattle.option_rom.specs.RomWalk.{Takes, walk_end, walk_of};
-ghost use Rattle.option_rom.specs.RomGrammar.{is_last};
+ghost use Rattle.option_rom.specs.RomGrammar.{is_last, size_of_images};
 ghost use Rattle.option_rom.specs.RomRead.{HasPcir};
 ghost use Rattle.option_rom.specs.declared.walk.Place.TheVariants.{Reading, AfterLast};
 
@@ -42,6 +42,8 @@ pub fn images(bytes: &[u8]) -> RomIter<'_>
     ensures walk { result ≡ walk_of bytes.now }
     // Each image has at least 512 bytes.
     ensures most { 512 * length result.images ≤ length bytes.now }
+    // They lie in the ROM, one after the other.
+    ensures within { size_of_images result.images ≤ length bytes.now }
 {
     RomIter {
         rest: bytes,

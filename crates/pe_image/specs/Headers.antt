@@ -3,7 +3,9 @@
 -- byte past the file's end counts as 0.
 use Rattle.std.specs.Prelude.{ℕ, ◌+◌, ◌-◌, ◌*◌, min, Bool, ◌&&◌, nat_eq, nat_lt, nat_le, List, map, if◌then◌else◌}
 use Rattle.std.specs.List.{range_with_len}
+use Rattle.byteorder.specs.Endian.{little_bytes}
 use Rattle.fw_types.specs.Layout.{uint16_at, uint32_at, uint64_at}
+use Rattle.pe_image.specs.declared.sections.Section.{Section}
 use Rattle.pe_image.specs.declared.sections.SectionHeader.{SectionHeader}
 
 -- the fields of the headers that count here
@@ -70,6 +72,22 @@ section_table bytes = (headers_of bytes).optional + (headers_of bytes).optional_
 unfoldable pub sections_of : List ℕ → List SectionHeader
 sections_of bytes =
     map (λ i. section_at (section_table bytes + 40 * i) bytes) (range_with_len 0 (headers_of bytes).section_count)
+
+-- a section with its name, which is the 8 bytes at the front of its header
+abbrev pub named_section_at : ℕ → List ℕ → Section
+named_section_at place bytes =
+    let header = section_at place bytes in
+    record {
+      name = little_bytes 8 (uint64_at place bytes);
+      virtual_size = header.virtual_size;
+      address = header.address;
+      raw_size = header.raw_size;
+      file_offset = header.file_offset;
+    }
+
+unfoldable pub named_sections_of : List ℕ → List Section
+named_sections_of bytes =
+    map (λ i. named_section_at (section_table bytes + 40 * i) bytes) (range_with_len 0 (headers_of bytes).section_count)
 
 -- how many bytes a section has in the image: its virtual size, or its raw size if that is 0
 abbrev pub extent_of : SectionHeader → ℕ

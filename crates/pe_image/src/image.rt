@@ -2,13 +2,14 @@ ghost use Rattle.std.specs.Prelude.{◌≡◌, ◌⊎◌, ◌<◌, ◌≤◌, �
 ghost use Rattle.std.specs.Result.{result_err};
 ghost use Rattle.fw_types.specs.declared.image.TheConstants.{BOOT_SERVICE_DRIVER as boot_service_driver, RUNTIME_DRIVER as runtime_driver};
 ghost use Rattle.fw_types.specs.declared.limits.TheConstants.{MOST_FILE_BYTES as most_file_bytes};
+ghost use Rattle.pe_image.specs.Headers.{named_sections_of};
 ghost use Rattle.pe_image.specs.ImageRules.{code_end_of, entry_of, refusal_of, size_of, subsystem_of};
 ghost use Rattle.pe_image.specs.LaidImage.{laid};
 
 use crate::fields;
 use crate::laying::{plain_image, relocate};
 use crate::rules::refusal;
-use crate::sections::section_with;
+use crate::sections::{Section, named_sections_of, section_with};
 use fw_types::{OutOfMemory, PeRefusal};
 use std::alloc::Global;
 use std::marker::Model;
@@ -110,6 +111,18 @@ impl<'a> PeView<'a> {
             Some(section) => Some(section.end() as u32),
             None => None,
         }
+    }
+
+    /// The sections, in the order of the section table and as it says them (PE/COFF: Section
+    /// Table).
+    ///
+    /// # Errors
+    ///
+    /// `OutOfMemory` if there is no memory for the list of them.
+    pub fn sections(&self, alloc: Global) -> Result<Vec<Section>, OutOfMemory>
+        ensures { IfOk result (λ sections. sections.items ≡ named_sections_of self.now) }
+    {
+        Ok(named_sections_of(alloc, self.bytes)?)
     }
 }
 

@@ -23,6 +23,7 @@ mod rules;
 mod sections;
 
 pub use image::{PeView, check, lay};
+pub use sections::Section;
 
 #[cfg(test)]
 mod tests;

@@ -1,9 +1,25 @@
 //! The section table.
-ghost use Rattle.std.specs.Prelude.{◌≡◌, ◌≤◌, ◌<◌, ◌+◌, ◌*◌, ◌^◌, find};
-ghost use Rattle.pe_image.specs.Headers.{headers_of, section_table, section_at, sections_of, extent_of, copied_size, end_of, has_address, has_copied, file_place};
+ghost use Rattle.std.specs.Prelude.{◌≡◌, ◌≤◌, ◌<◌, ◌+◌, ◌*◌, ◌^◌, IfOk, find};
+ghost use Rattle.pe_image.specs.Headers.{headers_of, section_table, section_at, sections_of, extent_of, copied_size, end_of, has_address, has_copied, file_place, named_section_at, named_sections_of};
 
 use crate::fields::{section_count, section_table};
-use crate::numbers::u32_at;
+use crate::numbers::{u32_at, u64_at};
+use std::alloc::{AllocError, Global};
+
+/// A section of an image, as its header in the section table says it (PE/COFF: Section Table).
+#[derive(Clone, Copy, Debug, PartialEq, Eq)]
+pub struct Section {
+    /// The 8 bytes of its name. A shorter name ends with zeros.
+    pub name: [u8; 8],
+    /// How many bytes it has in the image; if this is 0, `raw_size` says it.
+    pub virtual_size: u32,
+    /// Where it begins in the image.
+    pub address: u32,
+    /// How many bytes it has in the file.
+    pub raw_size: u32,
+    /// Where they begin in the file.
+    pub file_offset: u32,
+}
 
 /// What the section table says of a section (PE/COFF: Section Table).
 #[derive(Clone, Copy, Debug)]
@@ -79,6 +95,35 @@ pub fn section_at(bytes: &[u8], index: u16) -> SectionHeader
         raw_size: u32_at(bytes, place + 16),
         file_offset: u32_at(bytes, place + 20),
     }
+}
+
+/// A section with its name, by its place in the section table.
+fn named_section_at(bytes: &[u8], index: u16) -> Section
+    ensures { result ≡ named_section_at (section_table bytes.now + 40 * index) bytes.now }
+{
+    let header = section_at(bytes, index);
+    let place = section_table(bytes) + 40 * usize::from(index);
+    Section {
+        name: u64_at(bytes, place).to_le_bytes(),
+        virtual_size: header.virtual_size,
+        address: header.address,
+        raw_size: header.raw_size,
+        file_offset: header.file_offset,
+    }
+}
+
+/// The sections with their names, in the order of the section table.
+///
+/// # Errors
+///
+/// `AllocError` if there is no memory for the list of them.
+#[tactic(auto, unfolding(crate::specs::Headers::named_sections_of))]
+pub fn named_sections_of(alloc: Global, bytes: &[u8]) -> Result<Vec<Section>, AllocError>
+    ensures { IfOk result (λ sections. sections.items ≡ named_sections_of bytes.now) }
+{
+    (0..section_count(bytes))
+        .map(|index| named_section_at(bytes, index))
+        .collect(alloc)
 }
 
 /// The section that has a place of the image.

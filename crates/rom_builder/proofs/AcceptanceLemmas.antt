@@ -49,7 +49,7 @@ placed_relocations file image front place size some behind inside in_file =
     let virtual : nat_eq size 0 ≡ false = grind (arith, nat_tests) in
     rw virtual (in_place front place size (aligned size) image file behind inside in_file)
 
-end_of-code : (size : ℕ) → 0 < size → end_of (code_section size) ≡ 512 + size
+pub end_of-code : (size : ℕ) → 0 < size → end_of (code_section size) ≡ 512 + size
 unfolding code_section
 end_of-code size some = let virtual : nat_eq size 0 ≡ false = grind (arith, nat_tests) in rw virtual refl
 

@@ -5,3 +5,4 @@ pub mod HeaderLemmas
 pub mod BlockLemmas
 pub mod AcceptanceLemmas
 pub mod LaidImageLemmas
+pub mod CodeLemmas
