@@ -15,7 +15,7 @@ mod refusal;
 mod text;
 
 pub use node::{Node, is_end, node_at};
-pub use path::{append_pci, root_path};
+pub use path::{append_pci, pci_node, root_path};
 pub use refusal::PathRefusal;
 pub use text::text_of;
 

@@ -1,5 +1,5 @@
 ghost use Rattle.std.specs.Prelude.{◌≡◌, ◌≤◌, ◌<◌, IfOk, IfSome, length};
-ghost use Rattle.device_path.specs.DevicePath.{path_in, root_path, with_pci};
+ghost use Rattle.device_path.specs.DevicePath.{pci_node, path_in, root_path, with_pci};
 ghost use Rattle.device_path.specs.Steps.{AreNodesOf, GivesBytes, first_size};
 
 use crate::node::{is_end, node_at};
@@ -44,6 +44,14 @@ pub fn root_path(uid: u32) -> [u8; 16]
     ]
 }
 
+/// A PCI node (UEFI 2.8, 10.3.2.1: PCI Device Path). `device` and `function` are the numbers of a
+/// function on its bus. Takes no memory.
+pub fn pci_node(device: u8, function: u8) -> [u8; 6]
+    ensures { result ≡ pci_node device function }
+{
+    [0x01, 0x01, 0x06, 0x00, function, device]
+}
+
 /// A path with a PCI node (UEFI 2.8, 10.3.2.1: PCI Device Path) after its nodes, and then an End
 /// node of 4 bytes. `device` and `function` are the numbers of the function on its bus.
 ///
@@ -60,7 +68,7 @@ pub fn append_pci(
     ensures { GivesBytes result (with_pci (path_in path.now) device function) }
 {
     let size = size_of_nodes(path)?;
-    let node = [0x01, 0x01, 0x06, 0x00, function, device];
+    let node = pci_node(device, function);
     let mut child = Vec::with_capacity(alloc, size + node.len() + END_NODE.len())?;
     child.extend_from_slice(&path[..size])?;
     child.extend_from_slice(&node)?;

@@ -33,6 +33,10 @@ pub enum Command {
         driver: u64,
         child: u64,
     },
+    /// Unload the image of a handle (UEFI 2.8, 7.4: UnloadImage).
+    Unload {
+        image: u64,
+    },
     /// Replace the list of driver image handles that the platform prefers for a controller.
     Platform {
         controller: u64,

@@ -1,5 +1,7 @@
 ghost use Rattle.std.specs.Prelude.{◌≡◌, ◌<◌, ◌≤◌, ◌+◌, ◌++◌, [], ◌∷◌, List, if◌then◌else◌, is_ok, length, remove, slice_index_or, take, drop};
 ghost use Rattle.std.specs.Cmp.Lexicographic.{pointwise, lists_per};
+ghost use Rattle.std.specs.Fn.{CalledAt};
+ghost use Rattle.std.specs.List.Retain.{IsFiltered};
 
 use crate::memory::OutOfMemory;
 use std::marker::Model;
@@ -62,6 +64,16 @@ impl<T> Rows<T> {
         ensures rest { self.new ≡ remove self.old place }
     {
         self.items.remove(place)
+    }
+
+    /// Keeps the values that pass a test, in their order. Takes no memory.
+    pub fn retain<F: FnMut(&T) -> bool>(&mut self, test: F)
+    where
+        T: Drop,
+        requires { F.IsAlwaysCallable test }
+        ensures { IsFiltered (CalledAt F.FnMut) test self.old self.new }
+    {
+        self.items.retain(test);
     }
 
     /// Copies values over those from a place on. Takes no memory.

@@ -74,7 +74,7 @@ fn write_interrupt_line(world: &mut World, line: u64) -> Result<(), DevRefusal>
     ensures soft { world.new.now.soft ≡ world.old.now.soft }
     ensures marks { world.new.marks ≡ world.old.marks }
 {
-    world.board_mut().config_write(0, 0x3C, 1, line)
+    world.write_config(0, 0x3C, 1, line)
 }
 
 /// What is written to a device stays after an undo, and so do the option ROMs.

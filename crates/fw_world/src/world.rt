@@ -1,4 +1,4 @@
-ghost use Rattle.std.specs.Prelude.{◌≡◌, ◌+◌, ◌^◌, ◌<◌, ◌≤◌, [], false, true, nat_le, IfOk, OnOk, Ok, is_some, length, option_copied, replicate, if◌then◌else◌};
+ghost use Rattle.std.specs.Prelude.{◌≡◌, ◌+◌, ◌^◌, ◌<◌, ◌≤◌, [], false, true, nat_le, IfOk, IfSome, OnErr, OnOk, Ok, is_some, length, option_copied, replicate, if◌then◌else◌, None, is_ok};
 ghost use Rattle.guest_memory.specs.Segment.{is_block};
 ghost use Rattle.guest_memory.specs.GuestMemory.{bytes_of, is_readable, is_writable_range, put_bytes};
 ghost use Rattle.handle_db.specs.Database.{Gives as GivesDb, interface_of, is_live};
@@ -11,19 +11,23 @@ ghost use Rattle.world_model.specs.World.{on_hard, on_soft, with_memory, with_tp
 ghost use Rattle.world_model.specs.Faults.{Gives};
 ghost use Rattle.world_model.specs.Blocks.{allot_answer, block_added, block_freed, free_answer};
 ghost use Rattle.world_model.specs.Interfaces.{install_answer, interface as interface_value, interface_added, interface_removed, is_lasting, uninstall_answer};
-ghost use Rattle.world_model.specs.Images.{add_answer, drop_answer, entry_of as entry_value, image_added, image_at as image_value, image_dropped, is_image_full};
+ghost use Rattle.world_model.specs.Images.{add_answer, block_size, drop_answer, entry_of as entry_value, image_added, image_at as image_value, image_dropped, image_of, is_image_full};
+ghost use Rattle.world_model.specs.ImageSweep.{image_swept};
 ghost use Rattle.world_model.specs.Thunks.{thunk_answer, thunk_at as thunk_value, thunk_made};
 ghost use Rattle.world_model.specs.Stacks.{frame, has_stack, is_marked_stack, stack_popped, stack_pushed};
 ghost use Rattle.world_model.specs.Units.{units_aside, units_capped, units_returned, units_spent};
 ghost use Rattle.world_model.specs.Events.{command_begun, event_begun, event_ended, events_taken, next_serial};
 ghost use Rattle.world_model.specs.Marks.{committed, depth, marked_stacks, marked, rolled_back, stacks};
 ghost use Rattle.world_model.specs.CommandPath.{has_no_path, path_cleared, path_room, path_set};
-ghost use Rattle.world_model.specs.Kept.{IsKept};
+ghost use Rattle.world_model.specs.BusChildren.{bus_list, child_function, child_noted, child_of, pci_at, rom_done, with_bus_list};
+ghost use Rattle.world_model.specs.NewChild.{is_child_full};
+ghost use Rattle.world_model.specs.Kept.{IsKept, has_pci_io};
 ghost use Rattle.world_model.specs.Opening.{opening};
-ghost use Rattle.world_model.specs.Boards.{first_root, has_root_bridge_io, rom_of, roms_in, root_at, root_bus};
+ghost use Rattle.world_model.specs.Boards.{first_root, has_root_bridge_io, rom_of, roms_in, root_at, root_bus, with_board};
+ghost use Rattle.byteorder.specs.Endian.{little_bytes};
 ghost use Rattle.pci_model.specs.BoardLines.{functions};
-ghost use Rattle.std.specs.Borrow.{sem};
-ghost use Rattle.fw_world.specs.Lending.{LendsBoard};
+ghost use Rattle.pci_model.specs.Devices.{config_refusal, config_written, is_access, ok_unless};
+ghost use Rattle.pci_model.specs.Spaces.{has_range, space_of, space_written};
 ghost use Rattle.soft_part.specs.Answers.{AsBefore, AsBeforeFull, AsBeforeRefusal};
 
 use crate::cap::Cap;
@@ -33,12 +37,12 @@ use fw_types::{Attr, Event, EventKind, Guid, Handle, Known, OutOfMemory, Outcome
 use guest_memory::{GuestMem, MemRefusal, SegKind};
 use handle_db::{Db, DbRefusal};
 use open_records::{RecFault, Records};
-use pci_model::Board;
 use pci_model::laws::boards_are_small;
+use pci_model::{Board, DevRefusal, Space};
 use soft_part::SoftPart;
 use std::alloc::Global;
 use std::marker::Model;
-use world_model::WorldFault;
+use world_model::{LoadedImage, WorldFault};
 
 /// The handle of the first root bridge.
 const FIRST_ROOT: u64 = 3;
@@ -103,7 +107,7 @@ impl World {
     {
         board.soundness();
         boards_are_small();
-        let soft = SoftPart::new(alloc, board.roots())?;
+        let soft = SoftPart::new(alloc, roms.len(), board.roots())?;
         Ok(World {
             alloc,
             soft,
@@ -125,8 +129,9 @@ impl World {
     /// stack of its level. Each image has its segment, its loaded image block and its interface.
     /// The database is sound and has the interfaces of the firmware and of the bus driver. Each
     /// thunk enters an image, and no two have one number. The open records are sound and name
-    /// interfaces and handles that are there. The next addresses and the next number are within
-    /// their ranges.
+    /// interfaces and handles that are there. Each child of the bus has PCI I/O of the firmware and
+    /// a function of the board, and no two are one handle. The next addresses and the next number
+    /// are within their ranges.
     pub fn is_kept(&self)
         ensures { IsKept self.now.now.soft }
     {
@@ -142,13 +147,38 @@ impl World {
         &self.board
     }
 
-    /// The board, to be changed. The world has the board that is left behind the reference. Takes
-    /// no memory.
-    pub fn board_mut(&mut self) -> &mut Board
-        ensures* writes_back { sem 𝓛 (LendsBoard self.entry result) }
-        ensures value { result.now ≡ self.old.now.hard.board }
+    /// Writes the lowest `n` bytes of a number to configuration space of function `f` of the board
+    /// from `at` on, as `Board::config_write` does. No undo takes it back. Takes no memory.
+    ///
+    /// # Errors
+    ///
+    /// `NoFunction` if there is no such function; else `PastEnd` if a byte lies past the 256 of
+    /// configuration space. After them the world is as before.
+    pub fn write_config(&mut self, f: u32, at: u64, n: u8, value: u64) -> Result<(), DevRefusal>
+        requires { is_access n ≡ true }
+        ensures answer { result
+            ≡ ok_unless (config_refusal self.old.now.hard.board.lines f at n) tt }
+        ensures now { self.new.now ≡ (if is_ok result
+            then on_hard (with_board (config_written f at (little_bytes n value)
+            self.old.now.hard.board)) self.old.now
+            else self.old.now) }
+        ensures marks { self.new.marks ≡ self.old.marks }
     {
-        &mut self.board
+        self.board.config_write(f, at, n, value)
+    }
+
+    /// Writes bytes to configuration space of function `f` of the board, or to one of its BARs,
+    /// from `at` on, as `Board::write_space` does. All of them lie in it. No undo takes it back.
+    /// Takes no memory.
+    pub fn write_space(&mut self, f: u32, space: Space, at: u64, bytes: &[u8])
+        requires { has_range (space_of self.old.now.hard.board f space)
+            (at + length bytes.now) ≡ true }
+        ensures now { self.new.now ≡
+            on_hard (with_board (space_written f space at bytes.now self.old.now.hard.board))
+            self.old.now }
+        ensures marks { self.new.marks ≡ self.old.marks }
+    {
+        self.board.write_space(f, space, at, bytes);
     }
 
     /// The bus below the root bridge of a handle (PCI Firmware 3.2). `None` exactly if the handle
@@ -174,6 +204,86 @@ impl World {
             Some(Some(rom)) => Some(rom.as_slice()),
             _ => None,
         }
+    }
+
+    // ---- children of the bus
+
+    /// Whether one more child of the bus passes a limit: that of handles, or one of blocks. Its
+    /// device path has `path_size` bytes; `has_rom` says whether its function has an option ROM.
+    /// Takes no memory.
+    pub fn is_child_full(&self, path_size: u64, has_rom: bool) -> bool
+        ensures { result ≡ is_child_full path_size has_rom self.now.now.soft }
+    {
+        self.soft.is_child_full(path_size, has_rom)
+    }
+
+    /// The function of a child of the bus; `None` exactly if the number is not that of a handle
+    /// with PCI I/O of the firmware for which `note_child` was called. Takes no memory.
+    pub fn child_function(&self, h: u64) -> Option<u32>
+        ensures { result ≡ child_function h self.now.now.soft }
+    {
+        self.soft.child_function(h)
+    }
+
+    /// The child of function `f` with the least handle; `None` exactly if there is none. Takes no
+    /// memory.
+    pub fn child_of(&self, f: u32) -> Option<Handle>
+        ensures { result ≡ child_of f self.now.now.soft }
+    {
+        self.soft.child_of(f)
+    }
+
+    /// The function of the child of the bus whose PCI I/O of the firmware is at an address (UEFI
+    /// 2.8, 14.4: EFI PCI I/O Protocol); `None` exactly if there is none. Takes no memory.
+    pub fn pci_at(&self, this: u64) -> Option<u32>
+        ensures { result ≡ pci_at this self.now.now.soft }
+    {
+        self.soft.pci_at(this)
+    }
+
+    /// Makes `f` the function of a handle with PCI I/O of the firmware, until that interface is
+    /// removed. It is no child of the bus yet. A number that is no function's of the board changes
+    /// nothing.
+    ///
+    /// # Errors
+    ///
+    /// `OutOfMemory` if there is no memory.
+    pub fn note_child(&mut self, h: Handle, f: u32) -> Result<(), OutOfMemory>
+        requires there { has_pci_io h self.old.now.soft.database ≡ true }
+        requires new { child_function h self.old.now.soft ≡ None }
+        ensures now { OnOk result (self.new.now ≡ on_soft (child_noted h f) self.old.now) }
+        ensures marks { OnOk result (self.new.marks ≡ self.old.marks) }
+    {
+        self.soft.note_child(h, f)
+    }
+
+    /// Whether the option ROM of function `f` was processed. Takes no memory.
+    pub fn rom_done(&self, f: u32) -> bool
+        ensures { result ≡ rom_done f self.now.now.soft }
+    {
+        self.soft.rom_done(f)
+    }
+
+    /// The bus list of function `f`: the images that its option ROM brought, in order, and none
+    /// before it is processed. Takes no memory.
+    pub fn bus_list(&self, f: u32) -> &[Handle]
+        ensures { result.now ≡ bus_list f self.now.now.soft }
+    {
+        self.soft.bus_list(f)
+    }
+
+    /// Sets the bus list of function `f`, whose option ROM then counts as processed.
+    ///
+    /// # Errors
+    ///
+    /// `OutOfMemory` if there is no memory.
+    pub fn set_bus_list(&mut self, f: u32, images: Vec<Handle>) -> Result<(), OutOfMemory>
+        ensures now { OnOk result (self.new.now ≡
+            on_soft (with_bus_list f images.items) self.old.now) }
+        ensures marks { OnOk result (self.new.marks ≡ self.old.marks) }
+    {
+        self.soft.set_bus_list(f, images);
+        Ok(())
     }
 
     // ---- the task priority level
@@ -505,6 +615,41 @@ impl World {
         ensures refused { AsBefore result self.old self.new }
     {
         self.soft.drop_image(image)
+    }
+
+    /// Removes an image that `add_image` added, with all that belongs to it, in one sweep (UEFI 2.8,
+    /// 7.4: UnloadImage). These go:
+    ///
+    /// - its bytes, its loaded image block, and the thunks that enter its bytes;
+    /// - its loaded image interface, and all interfaces that it owns, and so the handles whose last
+    ///   interface goes;
+    /// - the open records of its agents, which are its handle and the handles whose driver binding
+    ///   it owns, and those of interfaces and with handles that go.
+    ///
+    /// The blocks that its driver allocated stay. If the handle is no such image's, nothing
+    /// changes. No mark is open, so that no rollback has to put the image back. Takes no memory.
+    ///
+    /// # Errors
+    ///
+    /// `NotThere` if the handle is no such image's.
+    pub fn sweep_image(&mut self, image: Handle) -> Result<(), WorldFault>
+        requires unmarked { self.old.marks ≡ [] }
+        ensures answer { result ≡ drop_answer image self.old.now.soft }
+        ensures now { self.new.now ≡ on_soft (image_swept image) self.old.now }
+        ensures marks { self.new.marks ≡ self.old.marks }
+        ensures refused { OnErr result (self.new ≡ self.old) }
+    {
+        self.soft.sweep_image(image)
+    }
+
+    /// The image of a handle, of those that `add_image` added; `None` exactly if the number is no
+    /// handle of such an image. Its loaded image block can be read (`can_read`). Takes no memory.
+    pub fn loaded_image(&self, handle: u64) -> Option<LoadedImage>
+        ensures image { result ≡ image_of handle self.now.now.soft.images }
+        ensures block { IfSome result
+            (λ image. is_readable self.now.now.soft.memory image.block block_size ≡ true) }
+    {
+        self.soft.loaded_image(handle)
     }
 
     /// Whether one more image of `size` bytes passes a limit: the errors `Full` of `add_image`.

@@ -1,6 +1,6 @@
 ghost use Rattle.std.specs.Prelude.{◌≡◌, refl, [], IsTrue, OnOk, OnErr, IfOk, is_ok, length, option_map, replicate, if◌then◌else◌};
 ghost use Rattle.guest_memory.specs.Segment.{is_access};
-ghost use Rattle.guest_memory.specs.GuestMemory.{write_answer, written, is_readable, is_writable_range, bytes_of, put_bytes, image_with, lie_from, total_of, is_full, map_answer, mapped, beginning_at, begins, unmapped, Gives};
+ghost use Rattle.guest_memory.specs.GuestMemory.{write_answer, written, is_readable, is_writable_range, bytes_of, put_bytes, image_with, lie_from, total_of, block_count, is_full, map_answer, mapped, beginning_at, begins, unmapped, Gives};
 ghost use Rattle.guest_memory.specs.Places.{IsInOrder};
 ghost use Rattle.guest_memory.specs.declared.segment.Segment.{Segment as SegmentValue};
 
@@ -104,6 +104,13 @@ impl Memory {
         ensures { result ≡ total_of self.now kind }
     {
         self.totals.of(kind)
+    }
+
+    /// How many blocks there are, of the pool and of the firmware. Takes no memory.
+    pub fn block_count(&self) -> u64
+        ensures { result ≡ block_count self.now }
+    {
+        self.totals.blocks()
     }
 
     /// Whether a segment of a kind begins at an address. Takes no memory.

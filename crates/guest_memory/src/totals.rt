@@ -40,6 +40,13 @@ impl Totals {
         }
     }
 
+    /// How many blocks there are.
+    pub(crate) fn blocks(&self) -> u64
+        ensures { result ≡ self.now.blocks }
+    {
+        self.blocks
+    }
+
     /// Counts one more segment of a kind, with so many bytes.
     pub(crate) fn add(&mut self, kind: SegKind, size: u64)
         requires bytes { total_in self.old kind + size < 2 ^ 64 }

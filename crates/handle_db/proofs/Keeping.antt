@@ -8,6 +8,7 @@ use Rattle.std.proofs.lemmas.Slice.Eq.{bytes_eq-Decides}
 use Rattle.fw_types.specs.declared.limits.TheConstants.{HANDLE_NUMBER_END, MOST_INTERFACES}
 use Rattle.handle_db.specs.Database.{Database, IsSound, differ, has, has_any, interfaces_in, interfaces_of, is_below, is_guid, is_handle, is_kept, is_live, rise_from, unless}
 use Rattle.handle_db.specs.Installing.{InstallingKeeps, appended, install_answer, installed, is_full, new_entry, with_interface}
+use Rattle.handle_db.specs.OwnedInterfaces.{RemovingOwnedKeeps, goes_with, without_interfaces_of}
 use Rattle.handle_db.specs.Removing.{RemovingKeeps, without_guid, without_interface}
 use Rattle.handle_db.specs.declared.refusal.DbRefusal.{DbRefusal}
 use Rattle.handle_db.specs.declared.refusal.DbRefusal.TheVariants.{BadHandle, Already, Full}
@@ -35,12 +36,12 @@ differ-push (first ∷ interfaces) new apart none =
     list_any-append (is_guid first.guid) interfaces (new ∷ []) ∙ rw (not-true _ parts.0, one) refl in
     rw none_more (differ-push interfaces new parts.1 others.1)
 
-any-filter : (p q : Interface → Bool) (interfaces : List Interface) → list_any q interfaces ≡ false → list_any q (filter p interfaces) ≡ false
+pub any-filter : {X : Type 0} (p q : X → Bool) (xs : List X) → list_any q xs ≡ false → list_any q (filter p xs) ≡ false
 any-filter p q [] none = refl
-any-filter p q (first ∷ interfaces) none =
-    let parts = or_parts (q first) (list_any q interfaces) none in
-    let rest : list_any q (filter p interfaces) ≡ false = any-filter p q interfaces parts.1 in
-    elim (p first) as (λ b. list_any q (cond b (first ∷ filter p interfaces) (filter p interfaces)) ≡ false) [ true ↦ rw (parts.0, rest) refl | false ↦ rest ]
+any-filter p q (x ∷ xs) none =
+    let parts = or_parts (q x) (list_any q xs) none in
+    let rest : list_any q (filter p xs) ≡ false = any-filter p q xs parts.1 in
+    elim (p x) as (λ b. list_any q (cond b (x ∷ filter p xs) (filter p xs)) ≡ false) [ true ↦ rw (parts.0, rest) refl | false ↦ rest ]
 
 differ-filter : (p : Interface → Bool) (interfaces : List Interface) → differ interfaces ≡ true → differ (filter p interfaces) ≡ true
 differ-filter p [] apart = refl
@@ -83,15 +84,18 @@ kept-appended entry new kept none room =
       apart = differ-push entry.interfaces new parts.apart none;
     })
 
-kept-without : (guid : List ℕ) (entry : HandleEntry) → is_kept entry ≡ true → has_any (without_guid guid entry) ≡ true → is_kept (without_guid guid entry) ≡ true
-kept-without guid entry kept some =
+-- fewer interfaces, if some are left
+kept-fewer : (p : Interface → Bool) (entry : HandleEntry) → is_kept entry ≡ true → nat_lt 0 (length (filter p entry.interfaces)) ≡ true → is_kept (record entry { interfaces = filter p entry.interfaces }) ≡ true
+kept-fewer p entry kept some =
     let parts = kept_parts entry kept in
-    let p : Interface → Bool = λ one. not (is_guid guid one) in
-    kept_from (without_guid guid entry) (record {
+    kept_from (record entry { interfaces = filter p entry.interfaces }) (record {
       some = some;
       few = omega (arith, length-filter-le p entry.interfaces, parts.few);
       apart = differ-filter p entry.interfaces parts.apart;
     })
+
+kept-without : (guid : List ℕ) (entry : HandleEntry) → is_kept entry ≡ true → has_any (without_guid guid entry) ≡ true → is_kept (without_guid guid entry) ≡ true
+kept-without guid entry kept some = kept-fewer (λ (one : Interface). not (is_guid guid one)) entry kept some
 
 -- ---- all entries
 
@@ -202,6 +206,35 @@ removing handle guid db sound =
       below = list_all-filter has_any (is_below db.next) (map change db.handles) (below-map change same db.next db.handles ∙ sound.below);
       kept = kept-without_interface handle guid db.handles sound.kept;
       few = omega (arith, length-filter_entries has_any (map change db.handles), length-map db.handles change, sound.few);
+      from = sound.from;
+      end = sound.end;
+    }
+
+-- ---- the interfaces that go with an image
+
+kept-without_owned : (image : ℕ) (own : List ℕ) (entries : List HandleEntry) → list_all is_kept entries ≡ true → list_all is_kept (filter has_any (map (without_interfaces_of image own) entries)) ≡ true
+kept-without_owned image own [] all = refl
+kept-without_owned image own (entry ∷ entries) all =
+    let parts = and_parts (is_kept entry) (list_all is_kept entries) all in
+    by_any (has_any (without_interfaces_of image own entry)) refl parts.0 (kept-without_owned image own entries parts.1)
+  where
+    rest : List HandleEntry
+    rest = filter has_any (map (without_interfaces_of image own) entries)
+
+    by_any : (any : Bool) → has_any (without_interfaces_of image own entry) ≡ any → is_kept entry ≡ true → list_all is_kept rest ≡ true → list_all is_kept (cond any (without_interfaces_of image own entry ∷ rest) rest) ≡ true
+    by_any true is kept later =
+        and_from (is_kept (without_interfaces_of image own entry)) (list_all is_kept rest)
+        (kept-fewer (λ (one : Interface). not (goes_with image own entry.handle one)) entry kept is) later
+    by_any false is kept later = later
+
+pub removing_owned : RemovingOwnedKeeps
+removing_owned image own db sound =
+    let changed : List HandleEntry = map (without_interfaces_of image own) db.handles in
+    record {
+      rising = rise_from-filter has_any 1 changed (rise_from-map (without_interfaces_of image own) (λ entry. refl) 1 db.handles ∙ sound.rising);
+      below = list_all-filter has_any (is_below db.next) changed (below-map (without_interfaces_of image own) (λ entry. refl) db.next db.handles ∙ sound.below);
+      kept = kept-without_owned image own db.handles sound.kept;
+      few = omega (arith, length-filter_entries has_any changed, length-map db.handles (without_interfaces_of image own), sound.few);
       from = sound.from;
       end = sound.end;
     }

@@ -1,4 +1,5 @@
 pub mod Database
 pub mod Installing
 pub mod Removing
+pub mod OwnedInterfaces
 pub mod Places

@@ -1,13 +1,15 @@
 ghost use Rattle.std.specs.Prelude.{◌≡◌, ◌≤◌, ◌<◌, [], true, IfOk, IfErr, OnOk, OnErr, None, Some, Ok, Err, filter, length, nat_eq, remove, slice_index_or, slice_set};
 ghost use Rattle.std.specs.List.{list_all};
-ghost use Rattle.handle_db.specs.Database.{Gives, IsSound, first_with, handles_with, has_any, interface_of, interfaces_of, is_live, protocols_of};
+ghost use Rattle.handle_db.specs.Database.{Gives, IsSound, first_with, handles_with, has, has_any, interface_of, interfaces_of, is_live, protocols_of};
 ghost use Rattle.handle_db.specs.Installing.{appended, install_answer, installed, is_full};
+ghost use Rattle.handle_db.specs.OwnedInterfaces.{is_owned_by, without_owned};
 ghost use Rattle.handle_db.specs.Removing.{remove_answer, removed};
 ghost use Rattle.handle_db.specs.Places.{IsPlaceOf, removed_at};
 ghost use Rattle.handle_db.specs.declared.handle_entry.HandleEntry.{HandleEntry as EntryValue};
 ghost use Rattle.handle_db.specs.declared.handle_entry.Interface.{Interface as InterfaceValue};
 
 use crate::handle_entry::{HandleEntry, Interface};
+use crate::owned::{drop_empty, drop_owned};
 use crate::places::{
     all_handles, copies_of, count_that_have, entry_of, first_that_has, handles_that_have, has_guid,
     has_no_room, interface_in, interface_place, place_of, protocols_in,
@@ -128,6 +130,16 @@ impl Db {
         Ok(removal(&interface, place, count))
     }
 
+    /// Removes the interfaces that go with an image (UEFI 2.8, 7.4: UnloadImage): those that it owns,
+    /// and the interface of the protocol `own` on its own handle, whoever owns that. A handle whose last
+    /// interface goes is no longer live. Takes no memory.
+    pub fn remove_owned(&mut self, image: Handle, own: Guid)
+        ensures { self.new ≡ without_owned image own self.old }
+    {
+        drop_owned(&mut self.handles, image, own);
+        drop_empty(&mut self.handles);
+    }
+
     /// Whether a number is that of a live handle. No live handle has the number 0. Takes no memory.
     pub fn is_live(&self, handle: u64) -> bool
         ensures { result ≡ is_live handle self.now }
@@ -144,6 +156,30 @@ impl Db {
         let entry = entry_of(self.handles.as_slice(), handle.get())?;
         let found = interface_in(entry.interfaces.as_slice(), guid)?;
         Some((found.interface, found.owner))
+    }
+
+    /// Whether a handle is live and has a protocol. Takes no memory.
+    pub fn has(&self, handle: Handle, guid: Guid) -> bool
+        ensures { result ≡ has handle guid self.now }
+    {
+        match entry_of(self.handles.as_slice(), handle.get()) {
+            Some(entry) => has_guid(entry.interfaces.as_slice(), guid),
+            None => false,
+        }
+    }
+
+    /// Whether an image owns the interface of a protocol on the handle with a number. It does not if there
+    /// is no such interface. Takes no memory.
+    pub fn is_owned(&self, handle: u64, guid: Guid, image: Handle) -> bool
+        ensures { result ≡ is_owned_by image (interface_of handle guid self.now) }
+    {
+        let Some(entry) = entry_of(self.handles.as_slice(), handle) else {
+            return false;
+        };
+        match interface_in(entry.interfaces.as_slice(), guid) {
+            Some(found) => found.owner == image,
+            None => false,
+        }
     }
 
     /// The live handles that have a protocol, by rising number (UEFI 2.8, 7.3: LocateHandle). If no

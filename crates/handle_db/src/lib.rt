@@ -8,12 +8,13 @@
 mod db;
 mod handle_entry;
 mod laws;
+mod owned;
 mod places;
 mod refusal;
 
 pub use db::Db;
 pub use handle_entry::{HandleEntry, Interface};
-pub use laws::{installing_keeps, removing_keeps};
+pub use laws::{installing_keeps, removing_keeps, removing_owned_keeps};
 pub use refusal::{DbRefusal, Removed};
 
 #[cfg(test)]

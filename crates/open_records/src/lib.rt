@@ -14,6 +14,7 @@ mod finding;
 mod laws;
 mod managing;
 mod open_record;
+mod parties;
 mod records;
 mod verdict;
 

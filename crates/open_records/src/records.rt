@@ -4,6 +4,7 @@ ghost use Rattle.open_records.specs.Adding.{Gives, added, is_full};
 ghost use Rattle.open_records.specs.Leaving.{cut, cut_on, is_meant, naming, with_places, swept};
 ghost use Rattle.open_records.specs.Managing.{children, managers};
 ghost use Rattle.open_records.specs.OpenRecords.{IsSound, records_of};
+ghost use Rattle.open_records.specs.Parties.{has_use_of, with_live_parties, without_agents_of};
 ghost use Rattle.open_records.specs.Verdicts.{judge, may_enter};
 
 use crate::changing::{drop_meant, drop_named, drop_on, enter};
@@ -13,6 +14,7 @@ use crate::finding::{
 };
 use crate::managing::{children_on, managers_on};
 use crate::open_record::{KeyedRecord, Rec};
+use crate::parties::{any_use_of, drop_agents_of, drop_without_parties};
 use crate::verdict::{Verdict, verdict_of};
 use fw_types::{Attr, Guid, Handle, OutOfMemory};
 use handle_db::Db;
@@ -176,6 +178,31 @@ impl Records {
         ensures { self.new ≡ swept name self.old }
     {
         drop_named(&mut self.entries, name);
+    }
+
+    /// Removes the records whose agents belong to an image (UEFI 2.8, 7.4: UnloadImage): the image's own
+    /// handle, and the handles on which it owns the interface of a protocol. Takes no memory.
+    pub fn drop_agents(&mut self, db: &Db, image: Handle, guid: Guid)
+        ensures { self.new ≡ without_agents_of image guid db.now self.old }
+    {
+        drop_agents_of(&mut self.entries, image, guid, db);
+    }
+
+    /// Removes the records whose interface is not installed, whose agent is not live, or whose controller
+    /// is neither 0 nor live. Takes no memory.
+    pub fn drop_dead(&mut self, db: &Db)
+        ensures { self.new ≡ with_live_parties db.now self.old }
+    {
+        drop_without_parties(&mut self.entries, db);
+    }
+
+    /// Whether an image is in use (UEFI 2.8, 7.4: UnloadImage): an agent that belongs to it, as
+    /// `drop_agents` says, has a record with BY_DRIVER, EXCLUSIVE or BY_CHILD_CONTROLLER, or there is such a
+    /// record of an interface that the image owns. Takes no memory.
+    pub fn has_use_of(&self, db: &Db, image: Handle, guid: Guid) -> bool
+        ensures { result ≡ has_use_of image guid db.now self.now }
+    {
+        any_use_of(self.entries.as_slice(), image, guid, db)
     }
 
     /// The records of an interface in order of their making (UEFI 2.8, 7.3: OpenProtocolInformation).

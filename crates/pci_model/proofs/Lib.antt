@@ -3,6 +3,7 @@ pub mod PassingLines
 pub mod BarLemmas
 pub mod CountLemmas
 pub mod DeviceLemmas
+pub mod SpaceLemmas
 pub mod BoardLimits
 pub mod LineLaws
 pub mod LocationLaws

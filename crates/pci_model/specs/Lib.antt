@@ -5,4 +5,6 @@ pub mod DeviceState
 pub mod Devices
 pub mod Indexed
 pub mod BoardAnswers
+pub mod Spaces
+pub mod Ways
 pub mod Laws

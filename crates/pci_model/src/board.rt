@@ -1,8 +1,10 @@
-ghost use Rattle.std.specs.Prelude.{◌≡◌, [], None, IfOk, IsTrue, is_ok, length, option_copied, if◌then◌else◌};
+ghost use Rattle.std.specs.Prelude.{◌≡◌, ◌+◌, [], true, None, IfOk, IsTrue, is_ok, length, option_copied, if◌then◌else◌};
 ghost use Rattle.byteorder.specs.Endian.{little_bytes};
 ghost use Rattle.pci_model.specs.BoardAnswers.{GivesBoard};
 ghost use Rattle.pci_model.specs.BoardLines.{find_at, functions, functions_on, location_of, rom_name_of, roots, secondary_of};
 ghost use Rattle.pci_model.specs.BoardRules.{board_fault};
+ghost use Rattle.pci_model.specs.Spaces.{has_range, space_of, space_written};
+ghost use Rattle.pci_model.specs.Ways.{bridge_to};
 ghost use Rattle.pci_model.specs.Devices.{IsSound, bar_read, bar_refusal, bar_written, board_of, config_read, config_refusal, config_written, ok_unless, is_access};
 
 use crate::access::{device_at, is_past, low_bytes, number_at, write_bar, write_config};
@@ -13,8 +15,10 @@ use crate::line::BoardLine;
 use crate::numbers::CONFIG_SIZE;
 use crate::refusal::DevRefusal;
 use crate::rules::board_fault;
+use crate::space::Space;
 use crate::tables::{
-    copies_of, device_table, function_at, function_table, name_in, number_table, root_table,
+    bridge_place, copies_of, device_table, function_at, function_table, name_in, number_table,
+    root_table,
 };
 use fw_types::OutOfMemory;
 use std::alloc::Global;
@@ -151,6 +155,14 @@ impl Board {
         function.secondary
     }
 
+    /// The bridge to a bus; `None` exactly if no bridge leads to it. Takes no memory.
+    pub fn bridge_to(&self, bus: u8) -> Option<u32>
+        ensures { result ≡ bridge_to self.now.lines bus }
+    {
+        let place = bridge_place(self.functions.as_slice(), bus)?;
+        Some(place as u32)
+    }
+
     /// The name of the file of the option ROM of function `f`; `None` exactly if it has none. Takes
     /// no memory.
     pub fn rom_name(&self, f: u32) -> Option<&str>
@@ -279,6 +291,32 @@ impl Board {
             low_bytes(&value.to_le_bytes(), n),
         );
         Ok(())
+    }
+
+    /// The bytes of configuration space of function `f`, or of one of its BARs; `None` exactly if
+    /// there is no such function or no such BAR. Takes no memory.
+    pub fn space(&self, f: u32, space: Space) -> Option<&[u8]>
+        ensures { option_copied result ≡ space_of self.now f space }
+    {
+        let device = device_at(self.devices.as_slice(), f)?;
+        match space {
+            Space::Config => Some(device.config()),
+            Space::Bar(bar) => device.bar(bar),
+        }
+    }
+
+    /// Writes bytes to configuration space of function `f`, or to one of its BARs, from `at` on.
+    /// All of them lie in it. Of configuration space only the bytes 4 and 5, the command register,
+    /// and 0x3C, the interrupt line, can be written: a write leaves the others as they are. Takes
+    /// no memory.
+    pub fn write_space(&mut self, f: u32, space: Space, at: u64, bytes: &[u8])
+        requires { has_range (space_of self.old f space) (at + length bytes.now) ≡ true }
+        ensures { self.new ≡ space_written f space at bytes.now self.old }
+    {
+        match space {
+            Space::Config => write_config(self.devices.as_mut_slice(), f as usize, at, bytes),
+            Space::Bar(bar) => write_bar(self.devices.as_mut_slice(), f as usize, bar, at, bytes),
+        }
     }
 
     /// What holds of every board: its lines have no fault, and each function has its device, with

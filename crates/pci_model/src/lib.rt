@@ -19,6 +19,7 @@ mod line;
 mod numbers;
 mod refusal;
 mod rules;
+mod space;
 mod tables;
 
 pub use board::{Board, board_from};
@@ -27,6 +28,7 @@ pub use line::BoardLine;
 pub use numbers::MOST_ROM_BYTES;
 pub use refusal::DevRefusal;
 pub use rules::line_fault;
+pub use space::Space;
 
 #[cfg(test)]
 mod tests;

@@ -1,5 +1,6 @@
 //! What a board keeps beside its lines, made of them.
-ghost use Rattle.std.specs.Prelude.{◌≡◌, ◌≤◌, None, IfOk, length, map, option_copied, slice_get};
+ghost use Rattle.std.specs.Prelude.{◌≡◌, ◌≤◌, ◌<◌, None, IfOk, IfSome, length, map, option_copied, slice_get};
+ghost use Rattle.pci_model.specs.Ways.{leads_to};
 ghost use Rattle.std.specs.BTreeMap.{get};
 ghost use Rattle.std.specs.List.{filter_map, position};
 ghost use Rattle.pci_model.specs.BoardLines.{Location as LocationValue, functions, is_at, name_at, ranges_at, roots};
@@ -108,6 +109,16 @@ pub fn function_at(functions: &[Function], number: u32) -> Option<Function>
     ensures { result ≡ slice_get functions.now number }
 {
     functions.get(number as usize).copied()
+}
+
+/// Where the bridge to a bus is among functions.
+pub fn bridge_place(functions: &[Function], bus: u8) -> Option<usize>
+    ensures there { result ≡ position (leads_to bus) functions.now }
+    ensures within { IfSome result (λ place. place < length functions.now) }
+{
+    functions
+        .iter()
+        .position(|function| function.secondary == Some(bus))
 }
 
 /// The name of the file of the ROM of the function at a location.

@@ -1,5 +1,5 @@
 -- What holds of every soft part, as the calls on its fields leave it.
-use Rattle.std.proofs.Common.{◌≡◌, ◌<◌, ◌≤◌, ℕ, ◌+◌, Bool, true, false, ◌||◌, cond, length, nat_eq, nat_lt, List, [], ◌∷◌, find, Option, Some, None, sym, subst, refl, ap, arith}
+use Rattle.std.proofs.Common.{◌≡◌, ◌∙◌, ◌<◌, ◌≤◌, ℕ, ◌+◌, Bool, true, false, ◌||◌, cond, length, nat_eq, nat_lt, List, [], ◌∷◌, find, Option, Some, None, sym, subst, refl, ap, arith, ◌++◌}
 use Rattle.std.specs.Prelude.{Result, Ok, Err, OnOk, OnErr, is_ok, is_some, option_map, if◌then◌else◌}
 use Rattle.std.specs.List.{list_any}
 use Rattle.std.proofs.lemmas.Bool.{both_ways}
@@ -22,6 +22,7 @@ use Rattle.open_records.specs.Adding.{Gives as GivesRecord, added, is_full as is
 use Rattle.open_records.specs.Verdicts.{judge, may_enter}
 use Rattle.handle_db.specs.Installing.{install_answer, installed, is_full as is_database_full}
 use Rattle.handle_db.specs.Removing.{remove_answer, removed, removal_of}
+use Rattle.world_model.specs.declared.bus_child.BusChild.{BusChild}
 use Rattle.world_model.specs.declared.image.LoadedImage.{LoadedImage}
 use Rattle.world_model.specs.World.{Soft}
 use Rattle.world_model.specs.Blocks.{block_room}
@@ -31,7 +32,9 @@ use Rattle.world_model.specs.CommandPath.{has_no_path, path_room, path_segment}
 use Rattle.world_model.proofs.CommandPath.{setting}
 use Rattle.world_model.specs.Images.{block_size, image_added, image_dropped, image_of, is_image_full, next_step, without_image, without_loaded}
 use Rattle.world_model.specs.Thunks.{without_thunks}
-use Rattle.world_model.specs.Kept.{IsKept, has_interface, is_address, is_installed}
+use Rattle.world_model.specs.BusChildren.{child_function, child_noted, pci_io_of}
+use Rattle.world_model.proofs.KeepingChildren.{noting}
+use Rattle.world_model.specs.Kept.{IsKept, has_interface, has_pci_io, is_address, is_installed}
 use Rattle.world_model.proofs.KeepingBlocks.{writing}
 use Rattle.world_model.proofs.ImageLists.{found_passes}
 use Rattle.world_model.proofs.KeepingImages.{adding, dropping}
@@ -122,6 +125,10 @@ pub kept_added : (soft : Soft) (bytes : List ℕ) (entry subsystem device : ℕ)
 kept_added soft bytes entry subsystem device memory db images next block kept inside room memory_is db_is images_is next_is block_is =
     rw (memory_is, db_is, images_is, next_is, block_is) (adding soft bytes entry subsystem device kept inside room)
 
+-- the image of a handle, as it is looked for by its number in the slice of all images
+pub image_found : (handle number : ℕ) (images slice : List LoadedImage) (found : Option LoadedImage) → number ≡ handle → slice ≡ images → found ≡ image_of number slice → image_of handle images ≡ found
+image_found handle number images slice found same whole is = ap (λ (n : ℕ). image_of n images) (sym same) ∙ ap (λ (xs : List LoadedImage). image_of number xs) (sym whole) ∙ sym is
+
 -- the interface of an image that is found goes
 pub db_dropped : (soft : Soft) (number : ℕ) (one : LoadedImage) (result : Result Removed DbRefusal) (after : Database) → IsKept soft → image_of number soft.images ≡ Some one
     → result ≡ remove_answer one.handle (known_guid LoadedImageProtocol) soft.database → OnOk result (after ≡ removed one.handle (known_guid LoadedImageProtocol) soft.database)
@@ -140,3 +147,13 @@ dropped_is soft number one found = ap (λ image. without_loaded image soft) foun
 pub kept_dropped : (soft : Soft) (number : ℕ) (one : LoadedImage) → IsKept soft → image_of number soft.images ≡ Some one
     → IsKept (record soft { memory = unmapped (unmapped soft.memory one.base) one.block; database = removed one.handle (known_guid LoadedImageProtocol) soft.database; records = records_removed one.handle (known_guid LoadedImageProtocol) (removed one.handle (known_guid LoadedImageProtocol) soft.database) soft.records; images = without_image one.handle soft.images; thunks = without_thunks (beginning_at soft.memory one.base) soft.thunks })
 kept_dropped soft number one kept found = subst IsKept (dropped_is soft number one found) (dropping soft number kept)
+
+-- ---- children of the bus
+
+-- with one more child, for whose function there is a bus list
+pub kept_noted : (soft : Soft) (handle function pci_io : ℕ) (after : List BusChild) → IsKept soft → has_pci_io handle soft.database ≡ true → child_function handle soft ≡ None → nat_lt function (length soft.bus_lists) ≡ true
+    → pci_io ≡ pci_io_of handle soft.database → after ≡ soft.bus_children ++ record { handle = handle; pci_io = pci_io; function = function } ∷ []
+    → IsKept (record soft { bus_children = after })
+kept_noted soft handle function pci_io after kept there new room at is =
+    let noted : IsKept (child_noted handle function soft) = noting soft handle function kept there new in
+    rw (is, at) (rw room at noted)

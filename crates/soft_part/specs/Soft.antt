@@ -1,5 +1,5 @@
 -- The soft part of a world, from its pieces as the code has them.
-use Rattle.std.specs.Prelude.{◌≡◌, List}
+use Rattle.std.specs.Prelude.{◌≡◌, ℕ, List}
 use Rattle.guest_memory.specs.declared.segment.Segment.{Segment}
 use Rattle.handle_db.specs.Database.{Database}
 use Rattle.open_records.specs.OpenRecords.{RecordTable}
@@ -14,6 +14,8 @@ soft_of memory database records plain = record {
   records = records;
   images = plain.images.items;
   thunks = plain.thunks.items;
+  bus_children = plain.bus_children.items;
+  bus_lists = plain.bus_lists.items;
   tpl = plain.tpl;
   next_image = plain.next_image;
   next_block = plain.next_block;
@@ -24,9 +26,9 @@ soft_of memory database records plain = record {
 abbrev pub with_plain : PlainPart → Soft → Soft
 with_plain plain soft = soft_of soft.memory soft.database soft.records plain
 
--- whether plain fields are those of the opening state
-abbrev pub IsOpening : PlainPart → Type 0
-IsOpening plain = with_plain plain firmware_soft ≡ firmware_soft
+-- whether plain fields are those of the opening state of a board with so many functions
+abbrev pub IsOpening : (functions : ℕ) → PlainPart → Type 0
+IsOpening functions plain = with_plain plain (firmware_soft functions) ≡ firmware_soft functions
 
 -- whether plain fields are the same
 abbrev pub IsCopyOf : PlainPart → PlainPart → Type 0

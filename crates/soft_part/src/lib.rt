@@ -1,12 +1,13 @@
 //! The soft part of the world: all that an undo puts back. It has the memory of drivers, the handle
-//! database, the open records, the images that are loaded, the thunks into them, the task priority
-//! level and the next addresses.
+//! database, the open records, the images that are loaded, the thunks into them, the children of the
+//! bus and the option ROMs that were processed, the task priority level and the next addresses.
 //!
 //! A contract sees a `SoftPart` as the record `Soft` of `world_model`. Each call that changes it
 //! says which single change of `world_model` it is. What holds of every soft part is the type's
 //! invariant.
 #![tactic(auto)]
 
+mod bus_children;
 mod database;
 mod image_block;
 mod mapping;

@@ -1,8 +1,9 @@
-//! The open records of interfaces and handles that go.
+//! The open records of interfaces, handles and images that go.
 ghost use Rattle.std.specs.Prelude.{◌≡◌};
+ghost use Rattle.world_model.specs.ImageSweep.{database_without, records_without};
 ghost use Rattle.world_model.specs.Records.{records_removed};
 
-use fw_types::{Attr, Guid, Handle};
+use fw_types::{Attr, Guid, Handle, Known};
 use handle_db::Db;
 use open_records::Records;
 
@@ -16,4 +17,17 @@ pub fn drop_records(records: &mut Records, db: &Db, handle: Handle, guid: Guid)
         return;
     }
     records.drop_naming(handle);
+}
+
+/// Removes what belongs to an image from the database, and from the records first those of its
+/// agents, as the database has them before it changes, and then those that the change leaves without
+/// their interface or a handle that they name.
+pub fn sweep_tables(db: &mut Db, records: &mut Records, image: Handle)
+    ensures database { db.new ≡ database_without image db.old }
+    ensures records { records.new ≡
+        records_without image db.old (database_without image db.old) records.old }
+{
+    records.drop_agents(db, image, Guid::known(Known::DriverBinding));
+    db.remove_owned(image, Guid::known(Known::LoadedImage));
+    records.drop_dead(db);
 }

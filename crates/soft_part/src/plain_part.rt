@@ -3,19 +3,25 @@
 ghost use Rattle.std.specs.Prelude.{IfOk};
 ghost use Rattle.soft_part.specs.Soft.{IsCopyOf, IsOpening};
 
+use crate::bus_children::{BusList, copies_of, first_lists};
 use fw_types::OutOfMemory;
 use guest_memory::address_map::{FIRST_BLOCK, FIRST_IMAGE};
 use std::alloc::Global;
-use world_model::{LoadedImage, TPL_APPLICATION, Thunk};
+use world_model::{BusChild, LoadedImage, TPL_APPLICATION, Thunk};
 
-/// The images that are loaded, the live thunks, the task priority level, the addresses of the next
-/// image and the next block, and the number of the next thunk.
+/// The images that are loaded, the live thunks, the children of the bus, the bus lists, the task
+/// priority level, the addresses of the next image and the next block, and the number of the next
+/// thunk.
 #[derive(Drop)]
 pub struct PlainPart {
     /// The images that are loaded, in order of loading, except for the firmware's own.
     pub images: Vec<LoadedImage>,
     /// The live thunks, in order of making.
     pub thunks: Vec<Thunk>,
+    /// The children of the bus, in order of making.
+    pub bus_children: Vec<BusChild>,
+    /// For each function of the board, by number, the images that its option ROM brought.
+    pub bus_lists: Vec<BusList>,
     /// The task priority level.
     pub tpl: u8,
     /// The address of the next image.
@@ -27,18 +33,25 @@ pub struct PlainPart {
 }
 
 impl PlainPart {
-    /// The plain fields of the opening state: no image and no thunk.
-    pub fn new(alloc: Global) -> PlainPart
-        ensures { IsOpening result }
+    /// The plain fields of the opening state of a board with so many functions: no image, no thunk
+    /// and no child.
+    ///
+    /// # Errors
+    ///
+    /// `OutOfMemory` if there is no memory.
+    pub fn new(alloc: Global, functions: usize) -> Result<PlainPart, OutOfMemory>
+        ensures { IfOk result (IsOpening functions) }
     {
-        PlainPart {
+        Ok(PlainPart {
             images: Vec::new(alloc),
             thunks: Vec::new(alloc),
+            bus_children: Vec::new(alloc),
+            bus_lists: first_lists(alloc, functions)?,
             tpl: TPL_APPLICATION,
             next_image: FIRST_IMAGE,
             next_block: FIRST_BLOCK,
             next_thunk: 0,
-        }
+        })
     }
 
     /// A copy.
@@ -52,6 +65,8 @@ impl PlainPart {
         Ok(PlainPart {
             images: Vec::from_slice(alloc, self.images.as_slice())?,
             thunks: Vec::from_slice(alloc, self.thunks.as_slice())?,
+            bus_children: Vec::from_slice(alloc, self.bus_children.as_slice())?,
+            bus_lists: copies_of(alloc, self.bus_lists.as_slice())?,
             tpl: self.tpl,
             next_image: self.next_image,
             next_block: self.next_block,

@@ -89,9 +89,9 @@ pub fn add_roots(
     alloc: Global,
     bridges: &[(u32, u8)],
 ) -> Result<(), OutOfMemory>
-    requires first { soft.old ≡ firmware_soft }
+    requires first { soft.old ≡ firmware_soft (length soft.old.bus_lists) }
     requires few { length bridges.now ≤ most_roots }
-    ensures { OnOk result (soft.new ≡ opening_soft bridges.now) }
+    ensures { OnOk result (soft.new ≡ opening_soft (length soft.old.bus_lists) bridges.now) }
 {
     roots_are_there();
     for bridge in bridges {

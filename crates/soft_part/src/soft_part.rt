@@ -1,6 +1,6 @@
-ghost use Rattle.std.specs.Prelude.{◌≡◌, ◌^◌, ◌<◌, ◌≤◌, ◌||◌, true, false, IfOk, OnErr, OnOk, Some, is_some, length, option_copied, replicate};
+ghost use Rattle.std.specs.Prelude.{◌≡◌, ◌^◌, ◌<◌, ◌≤◌, ◌||◌, true, false, IfOk, IfSome, OnErr, OnOk, Some, is_some, length, option_copied, replicate, None};
 ghost use Rattle.guest_memory.specs.Segment.{is_block};
-ghost use Rattle.guest_memory.specs.GuestMemory.{bytes_of, is_readable, is_writable_range, put_bytes};
+ghost use Rattle.guest_memory.specs.GuestMemory.{beginning_at, bytes_of, is_readable, is_writable_range, put_bytes, unmapped};
 ghost use Rattle.handle_db.specs.Database.{Gives as GivesDb, interface_of, is_live};
 ghost use Rattle.open_records.specs.OpenRecords.{records_of};
 ghost use Rattle.open_records.specs.Adding.{Gives as GivesRecord, is_full as is_table_full};
@@ -12,33 +12,40 @@ ghost use Rattle.world_model.specs.World.{with_memory, with_tpl};
 ghost use Rattle.world_model.specs.Faults.{Gives};
 ghost use Rattle.world_model.specs.Blocks.{allot_answer, block_added, block_freed, free_answer, is_block_full, is_image_block, block_room as block_room_of};
 ghost use Rattle.world_model.specs.Interfaces.{firmware, install_answer, interface as interface_value, interface_added, interface_removed, is_lasting, uninstall_answer};
-ghost use Rattle.world_model.specs.Images.{add_answer, block_bytes as block_value, drop_answer, entry_of as entry_value, image_added, image_at as image_value, image_dropped, image_from, image_of as image_found, is_image_full, next_step as first_step, without_image};
-ghost use Rattle.world_model.specs.Thunks.{thunk_answer, thunk_at as thunk_value, thunk_made};
+ghost use Rattle.world_model.specs.Images.{add_answer, block_bytes as block_value, block_size, drop_answer, entry_of as entry_value, image_added, image_at as image_value, image_dropped, image_from, image_of as image_found, is_image_full, next_step as first_step, without_image};
+ghost use Rattle.world_model.specs.ImageSweep.{image_swept};
+ghost use Rattle.world_model.specs.Thunks.{thunk_answer, thunk_at as thunk_value, thunk_made, without_thunks};
 ghost use Rattle.world_model.specs.Stacks.{frame as frame_value, has_stack, stack_popped, stack_pushed};
 ghost use Rattle.world_model.specs.CommandPath.{has_no_path, path_cleared, path_room, path_set};
-ghost use Rattle.world_model.specs.Kept.{IsKept};
+ghost use Rattle.world_model.specs.BusChildren.{bus_list, child_function, child_noted, child_of, pci_at, rom_done, with_bus_list};
+ghost use Rattle.world_model.specs.NewChild.{is_child_full};
+ghost use Rattle.world_model.specs.Kept.{IsKept, has_pci_io};
 ghost use Rattle.world_model.specs.Opening.{firmware_soft, opening_soft};
 ghost use Rattle.pci_model.specs.declared.numbers.TheConstants.{MOST_ROOTS as most_roots};
 ghost use Rattle.soft_part.specs.Answers.{AsBefore};
 
+use crate::bus_children::{drop_child, first_child, function_at, function_of, pci_io_of};
 use crate::database::{add_handle, opening};
 use crate::image_block::{ImageInfo, block_bytes};
 use crate::mapping::{map_free, map_image};
-use crate::opens::drop_records;
+use crate::opens::{drop_records, sweep_tables};
 use crate::plain_part::PlainPart;
 use crate::roots::add_roots;
 use crate::stack::{frame, map_list, stack_base, stack_bytes, unmap_level};
 use crate::tables::tables;
 use crate::thunks::{drop_from_segment, thunk_address, thunk_with};
 use ebc_machine::Cpu;
-use fw_types::{Attr, Guid, Handle, Known, MOST_RECORDS, MOST_THUNKS, OutOfMemory};
+use fw_types::{
+    Attr, Guid, Handle, Known, MOST_BLOCKS, MOST_BYTES, MOST_RECORDS, MOST_THUNKS, OutOfMemory,
+    Rows,
+};
 use guest_memory::address_map::{BLOCK_END, COMMAND_PATH, IMAGE_END, IMAGE_STEP};
 use guest_memory::{GuestMem, MemRefusal, Memory, SegKind};
 use handle_db::{Db, DbRefusal};
 use open_records::{RecFault, Records};
 use std::alloc::Global;
 use std::marker::Model;
-use world_model::{LoadedImage, Thunk, WorldFault};
+use world_model::{BusChild, LoadedImage, Thunk, WorldFault};
 
 /// The size of a loaded image block.
 const BLOCK_SIZE: u64 = 96;
@@ -68,34 +75,39 @@ impl Model for SoftPart {
 }
 
 impl SoftPart {
-    /// The soft part of the opening state, for at most 16 root bridges with their _UID and bus.
+    /// The soft part of the opening state, for a board with so many functions, and with at most 16
+    /// root bridges with their _UID and bus.
     ///
     /// # Errors
     ///
     /// `OutOfMemory` if there is no memory.
-    pub fn new(alloc: Global, bridges: &[(u32, u8)]) -> Result<SoftPart, OutOfMemory>
+    pub fn new(
+        alloc: Global,
+        functions: usize,
+        bridges: &[(u32, u8)],
+    ) -> Result<SoftPart, OutOfMemory>
         requires { length bridges.now ≤ most_roots }
-        ensures { IfOk result (λ soft. soft ≡ opening_soft bridges.now) }
+        ensures { IfOk result (λ soft. soft ≡ opening_soft functions bridges.now) }
     {
-        let mut soft = SoftPart::without_roots(alloc)?;
+        let mut soft = SoftPart::without_roots(alloc, functions)?;
         add_roots(&mut soft, alloc, bridges)?;
         Ok(soft)
     }
 
-    /// The soft part of the opening state, without root bridges.
+    /// The soft part of the opening state, for a board with so many functions and no root bridge.
     ///
     /// # Errors
     ///
     /// `OutOfMemory` if there is no memory.
-    fn without_roots(alloc: Global) -> Result<SoftPart, OutOfMemory>
-        ensures { IfOk result (λ soft. soft ≡ firmware_soft) }
+    fn without_roots(alloc: Global, functions: usize) -> Result<SoftPart, OutOfMemory>
+        ensures { IfOk result (λ soft. soft ≡ firmware_soft functions) }
     {
         Ok(SoftPart {
             alloc,
             memory: tables(alloc)?,
             database: opening(alloc)?,
             records: Records::new(alloc, MOST_RECORDS),
-            plain: PlainPart::new(alloc),
+            plain: PlainPart::new(alloc, functions)?,
         })
     }
 
@@ -286,6 +298,7 @@ impl SoftPart {
     {
         self.database.remove(handle, guid)?;
         drop_records(&mut self.records, &self.database, handle, guid);
+        drop_child(&mut self.plain.bus_children, handle, guid);
         Ok(())
     }
 
@@ -454,14 +467,43 @@ impl SoftPart {
             Some(image) => *image,
             None => return Err(WorldFault::NotThere),
         };
-        let bytes = self.memory.unmap(image.base);
-        drop_from_segment(&mut self.plain.thunks, &bytes);
-        let _ = self.memory.unmap(image.block);
+        unmap_image(&mut self.memory, &mut self.plain.thunks, &image);
         let guid = Guid::known(Known::LoadedImage);
         let _ = self.database.remove(image.handle, guid);
         drop_records(&mut self.records, &self.database, image.handle, guid);
         drop_from(&mut self.plain.images, image.handle);
         Ok(())
+    }
+
+    /// Removes an image with all that belongs to it, in one sweep. If the handle is not that of an
+    /// image, nothing changes.
+    ///
+    /// # Errors
+    ///
+    /// `NotThere` if the handle is not that of an image.
+    #[tactic(auto, unfolding(world_model::specs::ImageSweep::image_swept))]
+    pub fn sweep_image(&mut self, handle: Handle) -> Result<(), WorldFault>
+        ensures answer { result ≡ drop_answer handle self.old }
+        ensures now { self.new ≡ image_swept handle self.old }
+        ensures err { OnErr result (self.new ≡ self.old) }
+    {
+        let image = match image_of(self.plain.images.as_slice(), handle.get()) {
+            Some(image) => *image,
+            None => return Err(WorldFault::NotThere),
+        };
+        unmap_image(&mut self.memory, &mut self.plain.thunks, &image);
+        sweep_tables(&mut self.database, &mut self.records, image.handle);
+        drop_from(&mut self.plain.images, image.handle);
+        Ok(())
+    }
+
+    /// The image of a handle, whose loaded image block can be read.
+    pub fn loaded_image(&self, handle: u64) -> Option<LoadedImage>
+        ensures image { result ≡ image_found handle self.now.images }
+        ensures block { IfSome result
+            (λ image. is_readable self.now.memory image.block block_size ≡ true) }
+    {
+        image_of(self.plain.images.as_slice(), handle).copied()
     }
 
     /// The address of the next image.
@@ -527,6 +569,100 @@ impl SoftPart {
         match thunk_with(self.plain.thunks.as_slice(), at) {
             Some(thunk) => Some(thunk.entry),
             None => None,
+        }
+    }
+
+    // ---- children of the bus
+
+    /// Whether one more child of the bus, with a device path of so many bytes, passes a limit.
+    pub fn is_child_full(&self, path_size: u64, has_rom: bool) -> bool
+        ensures { result ≡ is_child_full path_size has_rom self.now }
+    {
+        if path_size > MOST_BYTES {
+            return true;
+        }
+        let (count, bytes, addresses) = if has_rom {
+            (3, 168, 176)
+        } else {
+            (2, 160, 160)
+        };
+        if self.database.is_full() || self.memory.is_full(SegKind::Pool, path_size + bytes) {
+            return true;
+        }
+        if self.memory.block_count() + count > MOST_BLOCKS {
+            return true;
+        }
+        self.plain.next_block + block_room(path_size) + addresses > BLOCK_END
+    }
+
+    /// The function of a handle, if it is a child of the bus.
+    pub fn child_function(&self, handle: u64) -> Option<u32>
+        ensures { result ≡ child_function handle self.now }
+    {
+        function_of(self.plain.bus_children.as_slice(), handle)
+    }
+
+    /// The child of a function with the least handle.
+    pub fn child_of(&self, function: u32) -> Option<Handle>
+        ensures { result ≡ child_of function self.now }
+    {
+        first_child(self.plain.bus_children.as_slice(), function)
+    }
+
+    /// The function of the child whose PCI I/O is at an address.
+    pub fn pci_at(&self, this: u64) -> Option<u32>
+        ensures { result ≡ pci_at this self.now }
+    {
+        function_at(self.plain.bus_children.as_slice(), this)
+    }
+
+    /// Makes a function that of a handle with PCI I/O of the firmware, which is no child yet. A
+    /// number that is no function's of the board changes nothing.
+    ///
+    /// # Errors
+    ///
+    /// `OutOfMemory` if there is no memory; the soft part is then as before.
+    pub fn note_child(&mut self, handle: Handle, function: u32) -> Result<(), OutOfMemory>
+        requires there { has_pci_io handle self.old.database ≡ true }
+        requires new { child_function handle self.old ≡ None }
+        ensures ok { OnOk result (self.new ≡ child_noted handle function self.old) }
+        ensures err { OnErr result (self.new ≡ self.old) }
+    {
+        if function as usize >= self.plain.bus_lists.len() {
+            return Ok(());
+        }
+        let pci_io = pci_io_of(&self.database, handle);
+        self.plain.bus_children.push(BusChild {
+            handle,
+            pci_io,
+            function,
+        })?;
+        Ok(())
+    }
+
+    /// Whether the option ROM of a function was processed.
+    pub fn rom_done(&self, function: u32) -> bool
+        ensures { result ≡ rom_done function self.now }
+    {
+        matches!(self.plain.bus_lists.get(function as usize), Some(Some(_)))
+    }
+
+    /// The images that the option ROM of a function brought.
+    pub fn bus_list(&self, function: u32) -> &[Handle]
+        ensures { result.now ≡ bus_list function self.now }
+    {
+        match self.plain.bus_lists.get(function as usize) {
+            Some(Some(images)) => images.as_slice(),
+            _ => &[],
+        }
+    }
+
+    /// The option ROM of a function was processed, and brought these images.
+    pub fn set_bus_list(&mut self, function: u32, images: Vec<Handle>)
+        ensures { self.new ≡ with_bus_list function images.items self.old }
+    {
+        if let Some(list) = self.plain.bus_lists.get_mut(function as usize) {
+            *list = Some(Rows::of(images));
         }
     }
 
@@ -616,6 +752,18 @@ impl GuestMem for SoftPart {
     fn fetch(&self, at: u64, into: &mut [u8; 18]) -> u8 {
         self.memory.fetch(at, into)
     }
+}
+
+/// Unmaps the bytes of an image and its loaded image block, and removes the thunks that enter it.
+fn unmap_image(memory: &mut Memory, thunks: &mut Vec<Thunk>, image: &LoadedImage)
+    ensures memory { memory.new ≡
+        unmapped (unmapped memory.old image.now.base) image.now.block }
+    ensures thunks { thunks.new.items ≡
+        without_thunks (beginning_at memory.old image.now.base) thunks.old.items }
+{
+    let bytes = memory.unmap(image.base);
+    drop_from_segment(thunks, &bytes);
+    let _ = memory.unmap(image.block);
 }
 
 /// Removes the image of a handle from those that are loaded.

@@ -74,6 +74,7 @@ setting soft bytes kept none few =
         numbers = kept.thunks.numbers;
       };
       records = kept.records;
+      children = kept.children;
       ranges = kept.ranges;
     }
   where
@@ -121,6 +122,7 @@ clearing soft kept =
         numbers = kept.thunks.numbers;
       };
       records = kept.records;
+      children = kept.children;
       ranges = kept.ranges;
     }
   where

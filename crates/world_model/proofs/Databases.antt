@@ -84,6 +84,14 @@ has-new db new none =
 
 -- ---- removing
 
+-- the test of two protocols, read the other way
+pub bytes-swap : (one two : List ℕ) (b : Bool) → bytes_eq one two ≡ b → bytes_eq two one ≡ b
+bytes-swap one two true same = (bytes_eq-Decides two one).1 (sym ((bytes_eq-Decides one two).0 same))
+bytes-swap one two false other = elim (cases_Bool (bytes_eq two one)) [
+  | inl same ↦ absurd (both_ways (bytes_eq one two) other ((bytes_eq-Decides one two).1 (sym ((bytes_eq-Decides two one).0 same))))
+  | inr apart ↦ apart
+]
+
 -- of two protocols an interface is of one
 other_guid : (one two : List ℕ) (i : Interface) → bytes_eq one two ≡ false → is_guid one i ≡ true → is_guid two i ≡ false
 other_guid one two i differ is = elim (cases_Bool (is_guid two i)) [

@@ -51,6 +51,7 @@ writing soft at n value kept done =
         numbers = kept.thunks.numbers;
       };
       records = kept.records;
+      children = kept.children;
       ranges = kept.ranges;
     }
 
@@ -76,6 +77,7 @@ putting soft at bytes kept can =
         numbers = kept.thunks.numbers;
       };
       records = kept.records;
+      children = kept.children;
       ranges = kept.ranges;
     }
 
@@ -86,6 +88,7 @@ tpl_set soft tpl kept = record {
   database = kept.database;
   thunks = kept.thunks;
   records = kept.records;
+  children = kept.children;
   ranges = kept.ranges;
 }
 
@@ -187,6 +190,7 @@ allotting soft bytes of kept is room =
         numbers = kept.thunks.numbers;
       };
       records = kept.records;
+      children = kept.children;
       ranges = record {
         images = kept.ranges.images;
         blocks = end;
@@ -230,5 +234,6 @@ freeing soft at of kept is done =
         numbers = kept.thunks.numbers;
       };
       records = kept.records;
+      children = kept.children;
       ranges = kept.ranges;
     }

@@ -39,6 +39,7 @@ use Rattle.world_model.proofs.ImageLists.{all_between, all_same_or_other, bases-
 use Rattle.world_model.proofs.ImageSegments.{blocks-mapped, blocks-unmapped, entry_points-mapped, entry_points-unmapped, lists-mapped_other, lists-unmapped_other}
 use Rattle.world_model.proofs.Structures.{length-block}
 use Rattle.world_model.proofs.KeepingBlocks.{allotting, fitting as fitting_block, placed-later, ranges}
+use Rattle.world_model.proofs.ChildLists.{children-installed, children-other}
 use Rattle.world_model.proofs.KeepingInterfaces.{installed-more}
 use Rattle.world_model.proofs.ThunkTargets.{targets-mapped, targets-unmapped_other, targets-without, numbers-without}
 
@@ -160,6 +161,7 @@ adding soft bytes entry subsystem device kept inside full =
         numbers = kept.thunks.numbers;
       };
       records = records-installed None one db soft.records kept.records;
+      children = children-installed None one soft kept.children;
       ranges = record {
         images = omega arith;
         blocks = subst (λ b. b ≤ BLOCK_END) same after.ranges.blocks;
@@ -239,6 +241,7 @@ dropping_one soft number one kept found =
         numbers = numbers-without (beginning_at memory one.base) 0 soft.thunks soft.next_thunk kept.thunks.numbers;
       };
       records = opens;
+      children = children-other one.handle guid soft refl kept.children;
       ranges = kept.ranges;
     }
 

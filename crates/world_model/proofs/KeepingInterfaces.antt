@@ -1,9 +1,8 @@
 -- Installing and uninstalling leave what holds of every soft part.
-use Rattle.std.proofs.Common.{◌≡◌, ◌≤◌, inl, inr, ℕ, Bool, true, false, not, ◌&&◌, ◌||◌, nat_eq, bytes_eq, List, Option, Some, None, refl, sym, ◌∙◌, arith}
+use Rattle.std.proofs.Common.{◌≡◌, ◌≤◌, inl, inr, ℕ, Bool, true, false, not, ◌&&◌, ◌||◌, nat_eq, bytes_eq, List, Option, Some, None, refl, ◌∙◌, arith}
 use Rattle.std.specs.List.{list_all}
-use Rattle.std.proofs.lemmas.Bool.{and_cases, and_left, and_right, or_parts, not-true, both_ways, cases_Bool}
+use Rattle.std.proofs.lemmas.Bool.{and_cases, and_left, and_right, or_parts, not-true}
 use Rattle.std.proofs.lemmas.Bool.Decides.{nat_tests}
-use Rattle.std.proofs.lemmas.Slice.Eq.{bytes_eq-Decides}
 use Rattle.fw_types.specs.Guid.{known_guid}
 use Rattle.fw_types.specs.declared.guid.Known.TheVariants.{LoadedImage as LoadedImageProtocol, DriverBinding}
 use Rattle.handle_db.specs.declared.handle_entry.Interface.{Interface}
@@ -17,7 +16,8 @@ use Rattle.world_model.specs.Interfaces.{bus_driver, firmware, is_image}
 use Rattle.world_model.specs.Kept.{is_installed}
 use Rattle.world_model.specs.Keeping.{InstallingKeeps, UninstallingKeeps}
 use Rattle.world_model.proofs.Segments.{list_all-mono, list_all-not, list_all-both}
-use Rattle.world_model.proofs.Databases.{has-installed, has-removed}
+use Rattle.world_model.proofs.ChildLists.{children-installed, children-removed}
+use Rattle.world_model.proofs.Databases.{bytes-swap, has-installed, has-removed}
 use Rattle.world_model.proofs.RecordParties.{records-installed, records-removed}
 use Rattle.world_model.proofs.ImageLists.{images_rise-later}
 
@@ -58,18 +58,11 @@ installing soft who new kept accepted =
       };
       thunks = kept.thunks;
       records = records-installed who new db soft.records kept.records;
+      children = children-installed who new soft kept.children;
       ranges = kept.ranges;
     }
 
 -- ---- uninstalling
-
--- the test of two protocols, and of two numbers, read the other way
-pub bytes-swap : (one two : List ℕ) (b : Bool) → bytes_eq one two ≡ b → bytes_eq two one ≡ b
-bytes-swap one two true same = (bytes_eq-Decides two one).1 (sym ((bytes_eq-Decides one two).0 same))
-bytes-swap one two false other = elim (cases_Bool (bytes_eq two one)) [
-  | inl same ↦ absurd (both_ways (bytes_eq one two) other ((bytes_eq-Decides one two).1 (sym ((bytes_eq-Decides two one).0 same))))
-  | inr apart ↦ apart
-]
 
 -- an interface that lasts is not the one that goes
 lasts : (one two : List ℕ) (a b : ℕ) → (bytes_eq one two && nat_eq a b) ≡ false → (bytes_eq two one && nat_eq b a) ≡ false
@@ -104,6 +97,7 @@ uninstalling soft handle guid kept lasting =
       };
       thunks = kept.thunks;
       records = opens;
+      children = children-removed handle guid soft kept.children;
       ranges = kept.ranges;
     }
   where

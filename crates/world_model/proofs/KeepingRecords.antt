@@ -21,6 +21,7 @@ kept_with soft table kept opens = record {
   database = kept.database;
   thunks = kept.thunks;
   records = opens;
+  children = kept.children;
   ranges = kept.ranges;
 }
 

@@ -63,6 +63,7 @@ pushed_stack soft level slots kept from to sixteen none =
         numbers = kept.thunks.numbers;
       };
       records = kept.records;
+      children = kept.children;
       ranges = kept.ranges;
     }
 
@@ -129,6 +130,7 @@ pushing soft level slots (handle ∷ handles) kept from to sixteen none few =
         numbers = kept.thunks.numbers;
       };
       records = kept.records;
+      children = kept.children;
       ranges = kept.ranges;
     }
   where
@@ -195,5 +197,6 @@ popping soft level kept from to =
         numbers = kept.thunks.numbers;
       };
       records = kept.records;
+      children = kept.children;
       ranges = kept.ranges;
     }

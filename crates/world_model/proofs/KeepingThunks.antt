@@ -43,6 +43,7 @@ making soft entry kept some ok =
         numbers = numbers-push 0 soft.thunks new kept.thunks.numbers;
       };
       records = kept.records;
+      children = kept.children;
       ranges = record {
         images = kept.ranges.images;
         blocks = kept.ranges.blocks;

@@ -26,7 +26,7 @@ use Rattle.world_model.specs.Legal.{HandleNode, InterfaceNode, handle_view, inte
 use Rattle.world_model.specs.NestedLaws.{AllLeavingInView, ChildLeavingInView, EnteringInView, InstallingInView, LeavingInView, NewHandleInView, RecordsChange, UninstallingInView, WeakDroppingInView, at_handle, at_interface, changed_records, everywhere, has_interfaces, unnamed_unless_there, unopened, with_interface_node, without, without_interface_node, without_protocol}
 use Rattle.world_model.proofs.RecordParties.{parties_of}
 use Rattle.world_model.proofs.KeepingImages.{none_next}
-use Rattle.world_model.proofs.KeepingInterfaces.{bytes-swap}
+use Rattle.world_model.proofs.Databases.{bytes-swap}
 
 -- ---- names of interfaces
 

@@ -38,8 +38,8 @@ use Rattle.world_model.proofs.Totals.{total-mapped, total-other}
 firmware_sound : IsSound firmware_database
 firmware_sound = record { rising = refl; below = refl; kept = refl; few = omega arith; from = omega arith; end = omega arith }
 
-pub firmware_kept : IsKept firmware_soft
-firmware_kept = record {
+pub firmware_kept : (functions : ℕ) → IsKept (firmware_soft functions)
+firmware_kept functions = record {
   memory = record {
     apart = rw (length-system_table, length-boot_table, length-bus_binding, length-block firmware_contents) refl;
     placed = rw (length-system_table, length-boot_table, length-bus_binding, length-block firmware_contents) refl;
@@ -68,6 +68,7 @@ firmware_kept = record {
     limit = refl;
     parties = refl;
   };
+  children = record { installed = refl; functions = refl; apart = refl };
   ranges = record {
     images = omega arith;
     blocks = omega arith;
@@ -96,7 +97,7 @@ handle_room_left : (limit handles next count : ℕ) → count < MOST_ROOTS → l
 handle_room_left limit handles next count small one two three = grind (arith, nat_tests)
 
 -- one block more
-count-mapped : (new : Segment) (segments : List Segment) → block_count (mapped new segments) ≡ block_count (new ∷ segments)
+pub count-mapped : (new : Segment) (segments : List Segment) → block_count (mapped new segments) ≡ block_count (new ∷ segments)
 count-mapped new [] = refl
 count-mapped new (s ∷ rest) =
     elim (nat_lt s.base new.base) as (λ b. block_count (cond b (s ∷ mapped new rest) (new ∷ s ∷ rest)) ≡ block_count (new ∷ s ∷ rest)) [
@@ -169,18 +170,18 @@ opened (bridge ∷ bridges) count soft few now =
     (opened bridges (count + 1) (step soft bridge) (omega arith) (opened_more count soft bridge (omega arith) now))
 
 -- the opening state
-all_opened : (bridges : List (ℕ × ℕ)) → length bridges ≤ MOST_ROOTS → IsOpened (0 + length bridges) (opening_soft bridges)
-all_opened bridges few =
-    opened bridges 0 firmware_soft (omega arith) (record { kept = firmware_kept; pool = refl; firmware = refl; blocks = refl; next_block = refl; next = refl; few = refl })
+all_opened : (functions : ℕ) (bridges : List (ℕ × ℕ)) → length bridges ≤ MOST_ROOTS → IsOpened (0 + length bridges) (opening_soft functions bridges)
+all_opened functions bridges few =
+    opened bridges 0 (firmware_soft functions) (omega arith) (record { kept = firmware_kept functions; pool = refl; firmware = refl; blocks = refl; next_block = refl; next = refl; few = refl })
 
 pub opening_kept : OpeningIsKept
-opening_kept bridges few = (all_opened bridges few).kept
+opening_kept functions bridges few = (all_opened functions bridges few).kept
 
 pub roots_fit : RootsFit
-roots_fit bridges uid small =
-    let soft : Soft = opening_soft bridges in
+roots_fit functions bridges uid small =
+    let soft : Soft = opening_soft functions bridges in
     let count = 0 + length bridges in
-    let now : IsOpened count soft = all_opened bridges (omega arith) in
+    let now : IsOpened count soft = all_opened functions bridges (omega arith) in
     let less : count < MOST_ROOTS = omega arith in
     let room : is_block_full (length (root_path uid)) soft ≡ false =
     block_room_left (total_of soft.memory Pool) (total_of soft.memory Firmware) (block_count soft.memory) soft.next_block count less now.pool now.firmware now.blocks now.next_block in

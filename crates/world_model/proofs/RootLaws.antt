@@ -28,8 +28,8 @@ use Rattle.world_model.proofs.RootBridges.{IsGrownBy, bridge_interface, grown, p
 use Rattle.world_model.proofs.StackLaws.{allotting}
 use Rattle.world_model.proofs.Structures.{length-block, length-boot_table, length-bus_binding, length-system_table}
 
-all_grown : (bridges : List (ℕ × ℕ)) → IsGrownBy bridges firmware_soft (opening_soft bridges)
-all_grown bridges = grown bridges firmware_soft (record { handles = refl; segments = refl })
+all_grown : (functions : ℕ) (bridges : List (ℕ × ℕ)) → IsGrownBy bridges (firmware_soft functions) (opening_soft functions bridges)
+all_grown functions bridges = grown bridges (firmware_soft functions) (record { handles = refl; segments = refl })
 
 -- ---- handles
 
@@ -38,9 +38,9 @@ numbers-of_roots handle path [] = refl
 numbers-of_roots handle path (bridge ∷ bridges) = ap (λ (rest : List ℕ). handle ∷ rest) (numbers-of_roots (handle + 1) (path + 16) bridges)
 
 pub opening_handles : OpeningHandles
-opening_handles bridges =
+opening_handles functions bridges =
     let two_more : suc (suc (length bridges)) ≡ 2 + length bridges = omega arith in
-    ap numbers (all_grown bridges).handles
+    ap numbers (all_grown functions bridges).handles
     ∙ ap (λ (rest : List ℕ). 1 ∷ 2 ∷ rest) (numbers-of_roots 3 FIRST_BLOCK bridges)
     ∙ ap (range_with_len 1) two_more
 
@@ -63,14 +63,14 @@ find-root handle path (first ∷ bridges) (suc place) bridge is =
     ∙ ap (λ (p : ℕ). Some (root_entry (handle + suc place) p)) at
     )
 
-interfaces-of_root : (bridges : List (ℕ × ℕ)) (place : ℕ) (bridge : ℕ × ℕ) → slice_get bridges place ≡ Some bridge
-    → interfaces_of (first_root + place) (opening_soft bridges).database ≡ path_interface (FIRST_BLOCK + 16 * place) ∷ bridge_interface ∷ []
-interfaces-of_root bridges place bridge is =
+interfaces-of_root : (functions : ℕ) (bridges : List (ℕ × ℕ)) (place : ℕ) (bridge : ℕ × ℕ) → slice_get bridges place ≡ Some bridge
+    → interfaces_of (first_root + place) (opening_soft functions bridges).database ≡ path_interface (FIRST_BLOCK + 16 * place) ∷ bridge_interface ∷ []
+interfaces-of_root functions bridges place bridge is =
     let no_firmware : nat_eq 1 (3 + place) ≡ false = grind (arith, nat_tests) in
     let no_driver : nat_eq 2 (3 + place) ≡ false = grind (arith, nat_tests) in
-    let found : find (is_handle (3 + place)) (firmware_soft.database.handles ++ root_entries 3 FIRST_BLOCK bridges) ≡ Some (root_entry (3 + place) (FIRST_BLOCK + 16 * place)) =
+    let found : find (is_handle (3 + place)) ((firmware_soft functions).database.handles ++ root_entries 3 FIRST_BLOCK bridges) ≡ Some (root_entry (3 + place) (FIRST_BLOCK + 16 * place)) =
     rw (no_firmware, no_driver) (find-root 3 FIRST_BLOCK bridges place bridge is) in
-    ap (λ (handles : List HandleEntry). interfaces_in (find (is_handle (3 + place)) handles)) (all_grown bridges).handles ∙ ap interfaces_in found
+    ap (λ (handles : List HandleEntry). interfaces_in (find (is_handle (3 + place)) handles)) (all_grown functions bridges).handles ∙ ap interfaces_in found
 
 -- ---- paths
 
@@ -105,16 +105,16 @@ no_table place =
     past base size place low = grind (arith, nat_tests)
 
 pub roots_are_there : RootsAreThere
-roots_are_there bridges place bridge is =
+roots_are_there functions bridges place bridge is =
     let at = FIRST_BLOCK + 16 * place in
-    let found : holder (opening_soft bridges).memory at 16 ≡ Some (root_segment at bridge.0) =
-    ap (λ (memory : List Segment). holder memory at 16) (all_grown bridges).memory
+    let found : holder (opening_soft functions bridges).memory at 16 ≡ Some (root_segment at bridge.0) =
+    ap (λ (memory : List Segment). holder memory at 16) (all_grown functions bridges).memory
     ∙ find-append (λ (s : Segment). has_bytes s at 16) tables (root_segments FIRST_BLOCK bridges)
     ∙ ap (λ (first : Option Segment). option_or first (holder (root_segments FIRST_BLOCK bridges) at 16)) (no_table place)
     ∙ find-path FIRST_BLOCK bridges place bridge is in
     let front : at - at ≡ 0 = omega arith in
     record {
-      interfaces = rw (interfaces-of_root bridges place bridge is) refl;
+      interfaces = rw (interfaces-of_root functions bridges place bridge is) refl;
       bytes = ap (λ (s : Option Segment). bytes_in s at 16) found ∙ rw front refl;
     }
 
@@ -124,7 +124,7 @@ pub roots_have_buses : RootsHaveBuses
 roots_have_buses board roms place bridge is =
     let low : nat_lt (3 + place) 3 ≡ false = grind (arith, nat_tests) in
     let back : 3 + place - 3 ≡ place = omega arith in
-    rw (interfaces-of_root (roots board.lines) place bridge is, low, back, is) refl
+    rw (interfaces-of_root (length roms) (roots board.lines) place bridge is, low, back, is) refl
 
 -- ---- what is not there
 
@@ -133,7 +133,7 @@ stacks-stay [] soft = refl
 stacks-stay (bridge ∷ bridges) soft = stacks-stay bridges (step soft bridge) ∙ allotting soft (root_path bridge.0) Firmware refl
 
 pub opening_is_at_rest : OpeningIsAtRest
-opening_is_at_rest board roms = record { no_stack = stacks-stay (roots board.lines) firmware_soft; no_mark = refl }
+opening_is_at_rest board roms = record { no_stack = stacks-stay (roots board.lines) (firmware_soft (length roms)); no_mark = refl }
 
 paths-beside : (path : ℕ) (bridges : List (ℕ × ℕ)) → TABLES_END ≤ path → list_all is_beside_path (root_segments path bridges) ≡ true
 paths-beside path [] high = refl
@@ -141,9 +141,9 @@ paths-beside path (bridge ∷ bridges) high =
     and_from (is_beside_path (root_segment path bridge.0)) (list_all is_beside_path (root_segments (path + 16) bridges)) (grind (arith, nat_tests)) (paths-beside (path + 16) bridges (omega arith))
 
 pub opening_has_none : OpeningHasNoPath
-opening_has_none bridges =
+opening_has_none functions bridges =
     let beside_tables : has_no_path tables ≡ true = rw (length-system_table, length-boot_table, length-bus_binding, length-block firmware_contents) refl in
-    ap has_no_path (all_grown bridges).memory
+    ap has_no_path (all_grown functions bridges).memory
     ∙ list_all-append is_beside_path tables (root_segments FIRST_BLOCK bridges)
     ∙ and_from (has_no_path tables) (list_all is_beside_path (root_segments FIRST_BLOCK bridges)) beside_tables (paths-beside FIRST_BLOCK bridges (omega arith))
 

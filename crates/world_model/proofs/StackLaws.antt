@@ -14,9 +14,10 @@ use Rattle.world_model.specs.World.{Soft, bases}
 use Rattle.world_model.specs.Blocks.{is_image_block}
 use Rattle.world_model.specs.Images.{image_of, image_segment, block_contents, image_block_segment, without_loaded}
 use Rattle.world_model.specs.Stacks.{list_base, list_segment, stack_base, stack_segment}
+use Rattle.world_model.specs.ImageSweep.{image_swept, swept_of}
 use Rattle.world_model.specs.Marks.{stacks}
 use Rattle.world_model.specs.Kept.{IsKept, is_placed, is_in_region}
-use Rattle.world_model.specs.StackLaws.{AddingKeepsStacks, AllottingKeepsStacks, DroppingKeepsStacks, FreeingKeepsStacks, PoppingUndoesPush, PoppingTakesStack, PushedStackIsThere, PushingAddsStack, PuttingKeepsStacks, StackOfLevel, WritingKeepsStacks, inserted}
+use Rattle.world_model.specs.StackLaws.{AddingKeepsStacks, AllottingKeepsStacks, DroppingKeepsStacks, FreeingKeepsStacks, PoppingUndoesPush, PoppingTakesStack, PushedStackIsThere, PushingAddsStack, PuttingKeepsStacks, SweepingKeepsStacks, StackOfLevel, WritingKeepsStacks, inserted}
 use Rattle.world_model.proofs.Segments.{list_all-unmapped}
 use Rattle.world_model.proofs.Bases.{bases-cons, bases-mapped_other, bases-unmapped, bases-unmapped_other, bases-put, bases-written}
 use Rattle.world_model.proofs.ImageLists.{all_between, found_passes, is_between}
@@ -116,6 +117,15 @@ dropping soft handle kept = by_image (image_of handle soft.images) refl
     by_image : (found : Option LoadedImage) → image_of handle soft.images ≡ found → stacks (without_loaded found soft) ≡ stacks soft
     by_image None is = refl
     by_image (Some one) is = dropping_one soft handle one kept is
+
+-- what a sweep unmaps is what dropping the image does
+pub sweeping : SweepingKeepsStacks
+unfolding image_swept
+sweeping soft image kept = by_image (image_of image soft.images) refl
+  where
+    by_image : (found : Option LoadedImage) → image_of image soft.images ≡ found → stacks (swept_of found soft) ≡ stacks soft
+    by_image None is = refl
+    by_image (Some one) is = dropping_one soft image one kept is
 
 -- ---- changes of stacks
 

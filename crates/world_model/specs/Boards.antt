@@ -71,17 +71,17 @@ pub record HasRoot (handle path uid : ℕ) (soft : Soft) : Type 0 where
 -- in the opening state each root bridge has its handle, and its path lies 16 bytes after that of the one before
 abbrev pub RootsAreThere : Type 0
 RootsAreThere =
-    (bridges : List (ℕ × ℕ)) (place : ℕ) (bridge : ℕ × ℕ) → slice_get bridges place ≡ Some bridge
-    → HasRoot (first_root + place) (FIRST_BLOCK + 16 * place) bridge.0 (opening_soft bridges)
+    (functions : ℕ) (bridges : List (ℕ × ℕ)) (place : ℕ) (bridge : ℕ × ℕ) → slice_get bridges place ≡ Some bridge
+    → HasRoot (first_root + place) (FIRST_BLOCK + 16 * place) bridge.0 (opening_soft functions bridges)
 
 -- beside them there are the handles of the firmware and of the bus driver
 abbrev pub OpeningHandles : Type 0
 OpeningHandles =
-    (bridges : List (ℕ × ℕ)) → handles_with None (opening_soft bridges).database ≡ range_with_len 1 (2 + length bridges)
+    (functions : ℕ) (bridges : List (ℕ × ℕ)) → handles_with None (opening_soft functions bridges).database ≡ range_with_len 1 (2 + length bridges)
 
 -- no limit keeps one of at most 16 root bridges out
 abbrev pub RootsFit : Type 0
-RootsFit = (bridges : List (ℕ × ℕ)) (uid : ℕ) → length bridges < MOST_ROOTS → is_root_full uid (opening_soft bridges) ≡ false
+RootsFit = (functions : ℕ) (bridges : List (ℕ × ℕ)) (uid : ℕ) → length bridges < MOST_ROOTS → is_root_full uid (opening_soft functions bridges) ≡ false
 
 -- the bus of each is that of its line
 abbrev pub RootsHaveBuses : Type 0

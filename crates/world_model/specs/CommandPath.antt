@@ -61,7 +61,7 @@ PathClearingKeepsStacks = (soft : Soft) → IsKept soft → stacks (path_cleared
 
 -- at first no path is there; one that is set lies there alone, and after it is cleared there is none again
 abbrev pub OpeningHasNoPath : Type 0
-OpeningHasNoPath = (bridges : List (ℕ × ℕ)) → has_no_path (opening_soft bridges).memory ≡ true
+OpeningHasNoPath = (functions : ℕ) (bridges : List (ℕ × ℕ)) → has_no_path (opening_soft functions bridges).memory ≡ true
 
 abbrev pub SetPathIsAlone : Type 0
 SetPathIsAlone = (soft : Soft) (bytes : List ℕ) → has_no_path soft.memory ≡ true → has_path_at_most (path_set bytes soft).memory ≡ true

@@ -10,6 +10,7 @@ use Rattle.handle_db.specs.Removing.{remove_answer, removed}
 use Rattle.world_model.specs.declared.image.LoadedImage.{LoadedImage}
 use Rattle.world_model.specs.World.{Soft}
 use Rattle.world_model.specs.Records.{records_removed}
+use Rattle.world_model.specs.BusChildren.{children_left}
 
 -- the handle of the firmware, and that of its PCI bus driver
 abbrev pub firmware : ℕ
@@ -39,11 +40,12 @@ abbrev pub uninstall_answer : ℕ → List ℕ → Soft → Result Unit DbRefusa
 uninstall_answer handle guid soft = without_value (remove_answer handle guid soft.database)
 
 -- An interface is removed with its records, and if it was its handle's last one, so are the records that
--- name the handle.
+-- name the handle. A handle whose PCI I/O is removed is no child of the bus any more.
 abbrev pub interface_removed : ℕ → List ℕ → Soft → Soft
 interface_removed handle guid soft = record soft {
   database = removed handle guid soft.database;
   records = records_removed handle guid (removed handle guid soft.database) soft.records;
+  bus_children = children_left handle guid soft.bus_children;
 }
 
 -- whether a handle is that of an image that is loaded, the firmware's own image apart

@@ -1,5 +1,5 @@
 -- Each single change leaves what holds of every soft part, and if it maps a segment nothing refuses that.
-use Rattle.std.specs.Prelude.{◌≡◌, ℕ, ◌≤◌, ◌<◌, true, false, List, length, Option, Ok, is_ok, is_some}
+use Rattle.std.specs.Prelude.{◌≡◌, ℕ, ◌≤◌, ◌<◌, true, false, List, length, Option, None, Ok, is_ok, is_some}
 use Rattle.guest_memory.specs.declared.segment.SegKind.{SegKind}
 use Rattle.guest_memory.specs.Segment.{is_block}
 use Rattle.guest_memory.specs.GuestMemory.{is_writable_range, map_answer, mapped, put_bytes, write_answer, written}
@@ -16,14 +16,16 @@ use Rattle.world_model.specs.Interfaces.{install_answer, interface_added, interf
 use Rattle.world_model.specs.Thunks.{thunk_answer, thunk_made}
 use Rattle.world_model.specs.Images.{BlockContents, image_added, image_at, image_dropped, image_segment, is_image_full, image_block_segment}
 use Rattle.world_model.specs.Stacks.{has_stack, list_segment, stack_popped, stack_pushed, stack_segment}
-use Rattle.world_model.specs.Kept.{IsKept}
+use Rattle.world_model.specs.ImageSweep.{image_swept}
+use Rattle.world_model.specs.Kept.{IsKept, has_pci_io}
+use Rattle.world_model.specs.BusChildren.{child_function, child_noted, with_bus_list}
 use Rattle.fw_types.specs.declared.limits.TheConstants.{MOST_LEVELS, MOST_LISTED}
 use Rattle.pci_model.specs.declared.numbers.TheConstants.{MOST_ROOTS}
 use Rattle.world_model.specs.Opening.{opening_soft}
 
 -- a board has at most 16 root bridges
 abbrev pub OpeningIsKept : Type 0
-OpeningIsKept = (bridges : List (ℕ × ℕ)) → length bridges ≤ MOST_ROOTS → IsKept (opening_soft bridges)
+OpeningIsKept = (functions : ℕ) (bridges : List (ℕ × ℕ)) → length bridges ≤ MOST_ROOTS → IsKept (opening_soft functions bridges)
 
 abbrev pub WritingKeeps : Type 0
 WritingKeeps =
@@ -105,11 +107,25 @@ AddingKeeps =
 abbrev pub DroppingKeeps : Type 0
 DroppingKeeps = (soft : Soft) (handle : ℕ) → IsKept soft → IsKept (image_dropped handle soft)
 
+abbrev pub SweepingKeeps : Type 0
+SweepingKeeps = (soft : Soft) (image : ℕ) → IsKept soft → IsKept (image_swept image soft)
+
 -- ---- thunks
 
 abbrev pub MakingKeeps : Type 0
 MakingKeeps =
     (soft : Soft) (entry : ℕ) → IsKept soft → is_some (image_at entry soft) ≡ true → is_ok (thunk_answer soft) ≡ true → IsKept (thunk_made entry soft)
+
+-- ---- children of the bus
+
+-- a handle with PCI I/O of the firmware, which is no child yet
+abbrev pub NotingKeeps : Type 0
+NotingKeeps =
+    (soft : Soft) (handle function : ℕ) → IsKept soft → has_pci_io handle soft.database ≡ true → child_function handle soft ≡ None
+    → IsKept (child_noted handle function soft)
+
+abbrev pub BusListKeeps : Type 0
+BusListKeeps = (soft : Soft) (function : ℕ) (images : List ℕ) → IsKept soft → IsKept (with_bus_list function images soft)
 
 -- ---- stacks
 

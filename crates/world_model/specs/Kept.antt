@@ -1,24 +1,25 @@
 -- What holds of every soft part between changes.
-use Rattle.std.specs.Prelude.{◌≡◌, ℕ, ◌+◌, ◌-◌, ◌*◌, ◌%◌, ◌≤◌, max, Bool, true, false, ◌&&◌, ◌||◌, nat_eq, nat_le, nat_lt, List, [], ◌∷◌, length, map, take, Option, Some, None, is_some}
+use Rattle.std.specs.Prelude.{◌≡◌, ℕ, ◌+◌, ◌-◌, ◌*◌, ◌%◌, ◌^◌, ◌≤◌, ◌<◌, max, Bool, true, false, not, ◌&&◌, ◌||◌, nat_eq, nat_le, nat_lt, List, [], ◌∷◌, length, map, take, Option, Some, None, is_some}
 use Rattle.std.specs.List.{list_all, list_any}
 use Rattle.fw_types.specs.Guid.{known_guid}
-use Rattle.fw_types.specs.declared.guid.Known.TheVariants.{LoadedImage as LoadedImageProtocol, DriverBinding}
+use Rattle.fw_types.specs.declared.guid.Known.TheVariants.{LoadedImage as LoadedImageProtocol, DriverBinding, PciIo}
 use Rattle.guest_memory.specs.declared.segment.Segment.{Segment}
 use Rattle.guest_memory.specs.declared.segment.SegKind.{SegKind}
 use Rattle.guest_memory.specs.declared.segment.SegKind.TheVariants.{Image, Pool, Firmware, Stack, Table}
 use Rattle.guest_memory.specs.Segment.{has_bytes}
-use Rattle.guest_memory.specs.GuestMemory.{image_with, is_of, lie_from}
-use Rattle.handle_db.specs.Database.{Database, IsSound, has, interface_of, is_live}
+use Rattle.guest_memory.specs.GuestMemory.{image_with, is_of, lie_from, is_readable, is_writable_range}
+use Rattle.handle_db.specs.Database.{Database, IsSound, interface_of, has, is_live}
 use Rattle.open_records.specs.OpenRecords.{IsSound as RecordsAreSound, RecordTable}
-use Rattle.open_records.specs.declared.open_record.KeyedRecord.{KeyedRecord}
 use Rattle.fw_types.specs.declared.limits.TheConstants.{MOST_HANDLES, MOST_LEVELS, MOST_RECORDS, MOST_THUNKS}
 use Rattle.guest_memory.specs.declared.address_map.TheConstants.{BLOCK_END, BUS_BINDING, CHILD_LISTS, FIRMWARE_IMAGE, FIRST_BLOCK, FIRST_IMAGE, IMAGE_END, LIST_ROOM, STACKS, STACK_SIZE, SYSTEM_TABLE, TABLES_END}
+use Rattle.world_model.specs.declared.bus_child.BusChild.{BusChild}
 use Rattle.world_model.specs.declared.image.LoadedImage.{LoadedImage}
 use Rattle.world_model.specs.declared.thunk.Thunk.{Thunk}
 use Rattle.world_model.specs.World.{Soft, bases}
+use Rattle.world_model.specs.BusChildren.{is_child, pci_io_of}
 use Rattle.world_model.specs.Images.{block_size}
 use Rattle.world_model.specs.Interfaces.{bus_driver, firmware}
-use Rattle.world_model.specs.Records.{is_none_or_live}
+pub use Rattle.open_records.specs.Parties.{are_parties_live}
 use Rattle.world_model.specs.Stacks.{has_list, has_stack}
 use Rattle.world_model.specs.Tables.{tables}
 
@@ -91,11 +92,24 @@ abbrev pub numbers_rise : ℕ → List Thunk → ℕ → Bool
 numbers_rise number [] next = nat_le number next
 numbers_rise number (thunk ∷ thunks) next = nat_le number thunk.number && numbers_rise (thunk.number + 1) thunks next
 
--- ---- open records
+-- ---- children of the bus
 
--- whether a record's interface is there, its agent is live, and so is its controller if it has one
-abbrev pub are_parties_live : Database → KeyedRecord → Bool
-are_parties_live db keyed = has keyed.handle keyed.guid db && (is_live keyed.rec.agent db && is_none_or_live keyed.rec.controller db)
+-- whether a handle has PCI I/O of the firmware
+abbrev pub has_pci_io : (handle : ℕ) → Database → Bool
+has_pci_io handle db = has_interface db handle (known_guid PciIo) (pci_io_of handle db) firmware
+
+-- whether a child has PCI I/O of the firmware at its address
+abbrev pub is_child_there : Database → BusChild → Bool
+is_child_there db child = has_interface db child.handle (known_guid PciIo) child.pci_io firmware
+
+-- whether a child's function is of a board with so many
+abbrev pub is_on_board : (functions : ℕ) → BusChild → Bool
+is_on_board functions child = nat_lt child.function functions
+
+-- whether no two children are one handle
+abbrev pub are_apart : List BusChild → Bool
+are_apart [] = true
+are_apart (child ∷ children) = not (list_any (is_child child.handle) children) && are_apart children
 
 -- ---- the parts
 --
@@ -136,6 +150,13 @@ pub record AreRecordsKept (database : Database) (records : RecordTable) : Type 0
   pub limit : records.limit ≡ MOST_RECORDS
   pub parties : list_all (are_parties_live database) records.entries ≡ true
 
+-- children of the bus: each has PCI I/O of the firmware at its address, and a function of the board, which has
+-- a bus list for each; no two are one handle
+pub record AreChildrenKept (database : Database) (children : List BusChild) (bus_lists : List (Option (List ℕ))) : Type 0 where
+  pub installed : list_all (is_child_there database) children ≡ true
+  pub functions : list_all (is_on_board (length bus_lists)) children ≡ true
+  pub apart : are_apart children ≡ true
+
 -- the next addresses and the next number are within their ranges
 pub record AreRangesKept (next_image next_block next_thunk : ℕ) : Type 0 where
   pub images : next_image ≤ IMAGE_END
@@ -150,4 +171,12 @@ pub record IsKept (soft : Soft) : Type 0 where
   pub database : IsDatabaseKept soft.database soft.images
   pub thunks : AreThunksKept soft.memory soft.thunks soft.next_thunk
   pub records : AreRecordsKept soft.database soft.records
+  pub children : AreChildrenKept soft.database soft.bus_children soft.bus_lists
   pub ranges : AreRangesKept soft.next_image soft.next_block soft.next_thunk
+
+-- ---- how large a range is
+
+-- a range of more than 2^63 bytes can be neither read nor written: no segment has so many
+abbrev pub RangesAreSmall : Type 0
+RangesAreSmall =
+    (soft : Soft) (at n : ℕ) → IsKept soft → 2 ^ 63 < n → (is_readable soft.memory at n ≡ false) × (is_writable_range soft.memory at n ≡ false)

@@ -2,6 +2,7 @@ pub mod World
 pub mod Faults
 pub mod Blocks
 pub mod Records
+pub mod BusChildren
 pub mod Interfaces
 pub mod Thunks
 pub mod Images
@@ -12,7 +13,10 @@ pub mod Marks
 pub mod Tables
 pub mod Opening
 pub mod Boards
+pub mod NewChild
+pub mod ChildLaws
 pub mod Kept
+pub mod ImageSweep
 pub mod Legal
 pub mod Fixed
 pub mod Keeping

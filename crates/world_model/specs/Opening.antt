@@ -1,6 +1,6 @@
 -- The opening state: the firmware with its loaded image, the PCI bus driver with its binding, the tables, and
 -- a handle for each root bridge of the board. Nothing is open.
-use Rattle.std.specs.Prelude.{ℕ, List, [], ◌∷◌, Option, Some, None}
+use Rattle.std.specs.Prelude.{ℕ, List, [], ◌∷◌, length, replicate, Option, Some, None}
 use Rattle.std.specs.List.{fold}
 use Rattle.fw_types.specs.Guid.{known_guid}
 use Rattle.fw_types.specs.declared.guid.Known.TheVariants.{LoadedImage, DriverBinding, DevicePath, RootBridgeIo}
@@ -29,14 +29,16 @@ firmware_database = record {
   limit = MOST_HANDLES;
 }
 
--- the soft part of a board with no root bridge
-abbrev pub firmware_soft : Soft
-firmware_soft = record {
+-- the soft part of a board with so many functions and no root bridge: no option ROM was processed
+abbrev pub firmware_soft : (functions : ℕ) → Soft
+firmware_soft functions = record {
   memory = tables;
   database = firmware_database;
   records = record { entries = []; limit = MOST_RECORDS };
   images = [];
   thunks = [];
+  bus_children = [];
+  bus_lists = replicate functions None;
   tpl = TPL_APPLICATION;
   next_image = FIRST_IMAGE;
   next_block = FIRST_BLOCK;
@@ -54,15 +56,16 @@ root_added uid soft =
     interface_added (Some soft.database.next) (interface (known_guid RootBridgeIo) root_bridge_io firmware)
     (interface_added None (interface (known_guid DevicePath) soft.next_block firmware) (block_added (root_path uid) Firmware soft))
 
--- the soft part of a board with these root bridges, each with its _UID and its bus: they follow in order
-abbrev pub opening_soft : List (ℕ × ℕ) → Soft
-opening_soft bridges = fold (λ soft bridge. root_added bridge.0 soft) firmware_soft bridges
+-- the soft part of a board with so many functions and these root bridges, each with its _UID and its bus:
+-- they follow in order
+abbrev pub opening_soft : (functions : ℕ) → List (ℕ × ℕ) → Soft
+opening_soft functions bridges = fold (λ soft bridge. root_added bridge.0 soft) (firmware_soft functions) bridges
 
--- no command has begun, and no mark is open
+-- no command has begun, and no mark is open; each function has its option ROM or none
 abbrev pub opening : BoardState → (roms : List (Option (List ℕ))) → WorldView
 opening board roms = record {
   now = record {
-    soft = opening_soft (roots board.lines);
+    soft = opening_soft (length roms) (roots board.lines);
     hard = record { units = 0; events = []; board = board; roms = roms };
   };
   marks = [];

@@ -1,11 +1,12 @@
 -- The open records of the world (UEFI 2.8, 7.3: OpenProtocol, CloseProtocol): which agent has which
 -- interface open, for which controller and how.
-use Rattle.std.specs.Prelude.{ℕ, ◌-◌, Bool, ◌||◌, nat_eq, List, length, Some, None, if◌then◌else◌}
+use Rattle.std.specs.Prelude.{ℕ, ◌-◌, List, length, Some, None, if◌then◌else◌}
 use Rattle.fw_types.specs.declared.attr.TheConstants.Attr.{ALL_BITS, BY_CHILD_CONTROLLER, WEAK_BITS}
 use Rattle.handle_db.specs.Database.{Database, is_live}
 use Rattle.open_records.specs.OpenRecords.{RecordTable}
 use Rattle.open_records.specs.Adding.{added}
 use Rattle.open_records.specs.Leaving.{cut, cut_on, is_meant, swept}
+pub use Rattle.open_records.specs.Parties.{is_none_or_live}
 use Rattle.world_model.specs.World.{Soft}
 
 -- a change of the records alone
@@ -13,10 +14,6 @@ abbrev pub with_records : RecordTable → Soft → Soft
 with_records records soft = record soft { records = records }
 
 -- ---- entering
-
--- whether an open may be for a controller: for none, or for a live one
-abbrev pub is_none_or_live : ℕ → Database → Bool
-is_none_or_live controller db = nat_eq controller 0 || is_live controller db
 
 -- one more open of an interface
 abbrev pub record_entered : ℕ → List ℕ → (agent controller attr : ℕ) → Soft → Soft

@@ -8,6 +8,7 @@ use Rattle.fw_types.specs.declared.limits.TheConstants.{MOST_LEVELS}
 use Rattle.world_model.specs.World.{Soft, with_memory}
 use Rattle.world_model.specs.Blocks.{block_added, block_freed, free_answer}
 use Rattle.world_model.specs.Images.{image_added, image_dropped}
+use Rattle.world_model.specs.ImageSweep.{image_swept}
 use Rattle.world_model.specs.Stacks.{has_stack, stack_base, stack_popped, stack_pushed}
 use Rattle.world_model.specs.Marks.{stacks}
 use Rattle.world_model.specs.Kept.{IsKept}
@@ -36,6 +37,9 @@ AddingKeepsStacks = (soft : Soft) (bytes : List ℕ) (entry subsystem device : �
 
 abbrev pub DroppingKeepsStacks : Type 0
 DroppingKeepsStacks = (soft : Soft) (handle : ℕ) → IsKept soft → stacks (image_dropped handle soft) ≡ stacks soft
+
+abbrev pub SweepingKeepsStacks : Type 0
+SweepingKeepsStacks = (soft : Soft) (image : ℕ) → IsKept soft → stacks (image_swept image soft) ≡ stacks soft
 
 -- ---- changes of stacks
 

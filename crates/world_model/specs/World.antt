@@ -7,18 +7,23 @@ use Rattle.guest_memory.specs.GuestMemory.{is_of}
 use Rattle.handle_db.specs.Database.{Database}
 use Rattle.open_records.specs.OpenRecords.{RecordTable}
 use Rattle.pci_model.specs.Devices.{BoardState}
+use Rattle.world_model.specs.declared.bus_child.BusChild.{BusChild}
 use Rattle.world_model.specs.declared.image.LoadedImage.{LoadedImage}
 use Rattle.world_model.specs.declared.thunk.Thunk.{Thunk}
 
 -- the memory of drivers; the handle database; the open records; the images that are loaded, in order of
--- loading, except for the firmware's own; the live thunks, in order of making; the task priority level; the
--- addresses at which the next image and the next block will lie; and the number of the next thunk
+-- loading, except for the firmware's own; the live thunks, in order of making; the children of the bus, in
+-- order of making; for each of the board's functions, by number, the images that its option ROM brought, or
+-- none before the ROM is processed; the task priority level; the addresses at which the next image and the
+-- next block will lie; and the number of the next thunk
 pub record Soft : Type 0 where
   pub memory : List Segment
   pub database : Database
   pub records : RecordTable
   pub images : List LoadedImage
   pub thunks : List Thunk
+  pub bus_children : List BusChild
+  pub bus_lists : List (Option (List ℕ))
   pub tpl : ℕ
   pub next_image : ℕ
   pub next_block : ℕ

@@ -8,14 +8,17 @@ ghost use Rattle.world_model.specs.ThunkLaws.{DroppingTakesThunks, MadeIsFound, 
 ghost use Rattle.world_model.specs.ImageLaws.{AddedIsFound};
 ghost use Rattle.world_model.specs.Boards.{OpeningHandles, RollbackLeavesBoard, RootsAreThere, RootsFit, RootsHaveBuses};
 ghost use Rattle.world_model.specs.Children.{ChildrenAreFew};
+ghost use Rattle.world_model.specs.ChildLaws.{BusListIsSet, FunctionIsOfChild, OpeningHasBusLists, PciIoIsOfChild, RemovingForgets};
+ghost use Rattle.world_model.specs.NewChild.{BlocksHaveSizes, ChildHasFunction, ChildHasInterfaces, ChildIsPossible, ChildKeepsStacks};
 ghost use Rattle.world_model.specs.CommandPath.{ClearingLeavesNoPath, OpeningHasNoPath, PathClearingKeeps, PathClearingKeepsStacks, PathFits, PathSettingKeeps, PathSettingKeepsStacks, SetPathIsAlone};
 ghost use Rattle.world_model.specs.Fixed.{MappingKeepsFixed, PuttingKeepsFixed, UnmappingKeepsFixed, WritingKeepsFixed};
+ghost use Rattle.world_model.specs.Kept.{RangesAreSmall};
 ghost use Rattle.world_model.specs.Legal.{DeadIsNotNamed, EveryoneIsLegal, NoneIsLost};
 ghost use Rattle.world_model.specs.Levels.{CallHasMarks, DeeperHasMarks, DeeperIsFree, FewerToSpare, MarkingLeavesFree, NextIsFree, OpeningIsAtRest, PushingLeavesFree, RestHasMarks, RestIsFree, SpareIsMade, SparesAreEnough};
 ghost use Rattle.world_model.specs.Marks.{CommitSpendsMark, RollbackPutsBack};
 ghost use Rattle.world_model.specs.NestedLaws.{AllLeavingInView, ChildLeavingInView, EnteringInView, InstallingInView, LeavingInView, NewHandleInView, UninstallingInView, WeakDroppingInView};
-ghost use Rattle.world_model.specs.StackLaws.{AddingKeepsStacks, AllottingKeepsStacks, DroppingKeepsStacks, FreeingKeepsStacks, PoppingUndoesPush, PoppingTakesStack, PushedStackIsThere, PushingAddsStack, PuttingKeepsStacks, StackOfLevel, WritingKeepsStacks};
-ghost use Rattle.world_model.specs.Keeping.{AddingKeeps, AllLeavingKeeps, AllottingKeeps, BlockFits, ChildLeavingKeeps, DroppingKeeps, EnteringKeeps, FreeingKeeps, ImageFits, InstallingKeeps, LeavingKeeps, ListFits, MakingKeeps, OpeningIsKept, PoppingKeeps, PushingKeeps, PuttingKeeps, StackFits, ImageBlockFits, TplKeeps, UninstallingKeeps, WeakDroppingKeeps, WritingKeeps};
+ghost use Rattle.world_model.specs.StackLaws.{AddingKeepsStacks, AllottingKeepsStacks, DroppingKeepsStacks, FreeingKeepsStacks, PoppingUndoesPush, PoppingTakesStack, PushedStackIsThere, PushingAddsStack, PuttingKeepsStacks, StackOfLevel, SweepingKeepsStacks, WritingKeepsStacks};
+ghost use Rattle.world_model.specs.Keeping.{AddingKeeps, AllLeavingKeeps, AllottingKeeps, BlockFits, ChildLeavingKeeps, DroppingKeeps, EnteringKeeps, FreeingKeeps, ImageFits, InstallingKeeps, LeavingKeeps, ListFits, MakingKeeps, OpeningIsKept, PoppingKeeps, PushingKeeps, PuttingKeeps, StackFits, ImageBlockFits, SweepingKeeps, TplKeeps, UninstallingKeeps, WeakDroppingKeeps, WritingKeeps, BusListKeeps, NotingKeeps};
 
 /// The tables, lists of children and blocks of the firmware keep their bytes while they are mapped:
 /// they change by being mapped and unmapped alone.
@@ -43,7 +46,10 @@ pub fn changes_keep()
     ensures weak_dropping { WeakDroppingKeeps }
     ensures adding { AddingKeeps }
     ensures dropping { DroppingKeeps }
+    ensures sweeping { SweepingKeeps }
     ensures making { MakingKeeps }
+    ensures noting { NotingKeeps }
+    ensures bus_list { BusListKeeps }
     ensures pushing { PushingKeeps }
     ensures popping { PoppingKeeps }
 {}
@@ -101,6 +107,7 @@ pub fn stacks_stand()
     ensures freeing { FreeingKeepsStacks }
     ensures adding { AddingKeepsStacks }
     ensures dropping { DroppingKeepsStacks }
+    ensures sweeping { SweepingKeepsStacks }
     ensures pushing { PushingAddsStack }
     ensures popping { PoppingTakesStack }
     ensures there { PushedStackIsThere }
@@ -155,6 +162,33 @@ pub fn roots_are_there()
     ensures interfaces { RootsAreThere }
     ensures handles { OpeningHandles }
     ensures buses { RootsHaveBuses }
+{}
+
+/// Nothing refuses a child of the bus that passes no limit. It has its interfaces, in order, and its
+/// function. The stacks stay.
+pub fn children_are_made()
+    ensures possible { ChildIsPossible }
+    ensures sizes { BlocksHaveSizes }
+    ensures interfaces { ChildHasInterfaces }
+    ensures function { ChildHasFunction }
+    ensures stacks { ChildKeepsStacks }
+{}
+
+/// A child of the bus, found by its handle or by the address of its PCI I/O, has PCI I/O of the
+/// firmware, and its function is of the board. A handle without its PCI I/O is no child. An option
+/// ROM that was processed has its images, and in the opening state there is a bus list for each
+/// function of the board.
+pub fn children_are_known()
+    ensures handle { FunctionIsOfChild }
+    ensures pci_io { PciIoIsOfChild }
+    ensures removed { RemovingForgets }
+    ensures bus_list { BusListIsSet }
+    ensures opening { OpeningHasBusLists }
+{}
+
+/// No range of more than 2^63 bytes can be read or written.
+pub fn ranges_are_small()
+    ensures { RangesAreSmall }
 {}
 
 /// An image that is added is found under its new handle.

@@ -5,12 +5,14 @@
 //! holds of every soft part. There is code here only if definitions and code share a plain type.
 #![tactic(auto)]
 
+mod bus_child;
 mod fault;
 mod image;
 pub mod laws;
 mod thunk;
 mod tpl;
 
+pub use bus_child::BusChild;
 pub use fault::WorldFault;
 pub use image::LoadedImage;
 pub use thunk::Thunk;

@@ -15,7 +15,7 @@ add_root-requires c =
     let within : i < length bridges = c.loop-bridge-test.true in
     let taken : length (take i bridges) ≡ i = length-take-le i bridges (omega arith) in
     let so_far : length (take i bridges) < MOST_ROOTS = omega (arith, c.requires.few) in
-    subst (λ (soft : Soft). is_root_full uid soft ≡ false) (sym c.loop-bridge.invariant) (c.roots_are_there.ensures.fit (take i bridges) uid so_far)
+    subst (λ (soft : Soft). is_root_full uid soft ≡ false) (sym c.loop-bridge.invariant) (c.roots_are_there.ensures.fit (length c.args.soft.now.bus_lists) (take i bridges) uid so_far)
 
 pub loop-bridge-preserved : goal.loop-bridge-preserved
 loop-bridge-preserved c =
@@ -23,4 +23,4 @@ loop-bridge-preserved c =
     let i = c.loop-bridge.bridge-index in
     c.in_ok-add_root.ensures
     ∙ ap (root_added (get_or bridges i (0, 0)).0) c.loop-bridge.invariant
-    ∙ sym (fold_more (λ (soft : Soft) (bridge : ℕ × ℕ). root_added bridge.0 soft) firmware_soft bridges i (0, 0) c.loop-bridge-test.true)
+    ∙ sym (fold_more (λ (soft : Soft) (bridge : ℕ × ℕ). root_added bridge.0 soft) (firmware_soft (length c.args.soft.now.bus_lists)) bridges i (0, 0) c.loop-bridge-test.true)

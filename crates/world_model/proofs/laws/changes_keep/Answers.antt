@@ -2,9 +2,11 @@ use Rattle.world_model.proofs.OpeningState.{opening_kept}
 use Rattle.world_model.proofs.KeepingBlocks.{allotting, freeing, putting, tpl_set, writing}
 use Rattle.world_model.proofs.KeepingInterfaces.{installing, uninstalling}
 use Rattle.world_model.proofs.KeepingImages.{adding, dropping}
+use Rattle.world_model.proofs.KeepingSweeps.{sweeping}
 use Rattle.world_model.proofs.KeepingStacks.{popping, pushing}
 use Rattle.world_model.proofs.KeepingRecords.{all_leaving, child_leaving, entering, leaving, weak_dropping}
 use Rattle.world_model.proofs.KeepingThunks.{making}
+use Rattle.world_model.proofs.KeepingChildren.{bus_list_set, noting}
 use Rattle.world_model.proofs.laws.changes_keep.Goals as goal
 
 pub returns : goal.returns
@@ -24,7 +26,10 @@ returns c = record {
   weak_dropping = weak_dropping;
   adding = adding;
   dropping = dropping;
+  sweeping = sweeping;
   making = making;
+  noting = noting;
+  bus_list = bus_list_set;
   pushing = pushing;
   popping = popping;
 }

@@ -1,4 +1,4 @@
-use Rattle.world_model.proofs.StackLaws.{adding, allotting, dropping, freeing, popping_undoes_push, popping, pushed_stack_is_there, pushing, putting, stack_of_level, writing}
+use Rattle.world_model.proofs.StackLaws.{adding, allotting, dropping, freeing, popping_undoes_push, popping, pushed_stack_is_there, pushing, putting, stack_of_level, sweeping, writing}
 use Rattle.world_model.proofs.laws.stacks_stand.Goals as goal
 
 pub returns : goal.returns
@@ -10,6 +10,7 @@ returns c = record {
   freeing = freeing;
   adding = adding;
   dropping = dropping;
+  sweeping = sweeping;
   pushing = pushing;
   popping = popping;
   there = pushed_stack_is_there;

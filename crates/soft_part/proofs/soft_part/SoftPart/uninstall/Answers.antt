@@ -9,4 +9,4 @@ pub invariant_of-self-2 : goal.invariant_of-self-2
 invariant_of-self-2 c =
     let inside = c.self.inside in
     let soft : Soft = soft_of inside.memory inside.database inside.records inside.plain in
-    rw (c.drop_records.ensures, c.in_ok-remove.ensures.ok) (uninstalling soft c.args.handle c.args.guid c.self.invariant (ap (λ (s : Soft). is_lasting c.args.handle c.args.guid s) c.self.view_is ∙ c.requires))
+    rw (c.drop_records.ensures, c.drop_child.ensures, c.in_ok-remove.ensures.ok) (uninstalling soft c.args.handle c.args.guid c.self.invariant (ap (λ (s : Soft). is_lasting c.args.handle c.args.guid s) c.self.view_is ∙ c.requires))
