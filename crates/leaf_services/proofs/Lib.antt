@@ -5,3 +5,4 @@ pub mod InstallPairs
 pub mod ServiceEnds
 pub mod HandleList
 pub mod PairReads
+pub mod NumbersStored

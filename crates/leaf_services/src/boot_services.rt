@@ -4,9 +4,9 @@ ghost use Rattle.service_thunks.specs.Arguments.{most_arguments};
 ghost use Rattle.service_model.specs.Allowed.{is_allowed};
 ghost use Rattle.service_model.specs.SecondLook.{looked_again, second_look};
 ghost use Rattle.service_model.specs.Untouched.{goes_on, may_go_on};
-ghost use Rattle.service_model.specs.BootServices.{end_of_row, is_boot_service, pool_price, priced_after, priced_first, row, served, with_arguments, with_price};
+ghost use Rattle.service_model.specs.BootServices.{is_boot_service, pool_price, priced_after, priced_first, row, served, with_arguments, with_price};
 
-use crate::changes::apply;
+use crate::changes::end_row;
 use fw_types::{Cause, MOST_BYTES, OutOfMemory};
 use fw_world::World;
 use service_model::laws::{rows_are_allowed, second_looks_end, services_end};
@@ -28,6 +28,7 @@ use service_thunks::Service;
 
 /// How many arguments a service has.
 fn slots_of(s: Service) -> u8
+    requires { is_boot_service s ≡ true }
     ensures value { result ≡ (row s).slots }
     ensures few { result ≤ most_arguments }
 {
@@ -52,18 +53,19 @@ fn slots_of(s: Service) -> u8
         | Service::OpenProtocolInformation => 4,
         Service::LocateHandle | Service::LocateHandleBuffer => 5,
         Service::OpenProtocol => 6,
+        Service::Unbuilt => 0,
         Service::MemRead
         | Service::MemWrite
         | Service::PciRead
         | Service::PciWrite
         | Service::GetLocation
-        | Service::Attributes
-        | Service::Unbuilt => 0,
+        | Service::Attributes => unreachable!(),
     }
 }
 
 /// Whether the price of a service names an argument.
 fn is_by_argument(s: Service) -> bool
+    requires { is_boot_service s ≡ true }
     ensures { result ≡ (row s).by_argument }
 {
     matches!(
@@ -74,6 +76,7 @@ fn is_by_argument(s: Service) -> bool
 
 /// The price of a service with these arguments, in units.
 fn price_of(s: Service, a: &[u64; 16]) -> u64
+    requires { is_boot_service s ≡ true }
     ensures { result ≡ (row s).price a.now }
 {
     match s {
@@ -98,13 +101,13 @@ fn price_of(s: Service, a: &[u64; 16]) -> u64
         | Service::Stall
         | Service::ConnectController
         | Service::DisconnectController
-        | Service::MemRead
+        | Service::Unbuilt => 1,
+        Service::MemRead
         | Service::MemWrite
         | Service::PciRead
         | Service::PciWrite
         | Service::GetLocation
-        | Service::Attributes
-        | Service::Unbuilt => 1,
+        | Service::Attributes => unreachable!(),
     }
 }
 
@@ -135,6 +138,7 @@ fn low32(value: u64) -> u32
 
 /// The change that a service ends with for these arguments, or why it stops.
 fn change_for(s: Service, c: &Caller, a: &[u64; 16], w: &World) -> Result<Change, Stop>
+    requires { is_boot_service s ≡ true }
     ensures { result ≡ (row s).rest c.now a.now w.now.now }
 {
     match s {
@@ -159,18 +163,19 @@ fn change_for(s: Service, c: &Caller, a: &[u64; 16], w: &World) -> Result<Change
         Service::ConnectController => connect_controller(a[0], a[1], a[2], low8(a[3]), w),
         Service::UninstallMultiple => uninstall_multiple(a[0], first_pair(c.sp), w),
         Service::DisconnectController => disconnect_controller(a[0], a[1], a[2], w),
+        Service::Unbuilt => unbuilt(w),
         Service::MemRead
         | Service::MemWrite
         | Service::PciRead
         | Service::PciWrite
         | Service::GetLocation
-        | Service::Attributes
-        | Service::Unbuilt => unbuilt(w),
+        | Service::Attributes => unreachable!(),
     }
 }
 
 /// The same change, which can be applied.
 fn allowed_change(s: Service, c: &Caller, a: &[u64; 16], w: &World) -> Result<Change, Stop>
+    requires { is_boot_service s ≡ true }
     ensures value { result ≡ (row s).rest c.now a.now w.now.now }
     ensures allowed { IfOk result (λ change. is_allowed change w.now.now ≡ true) }
 {
@@ -180,21 +185,9 @@ fn allowed_change(s: Service, c: &Caller, a: &[u64; 16], w: &World) -> Result<Ch
 
 // ---- how a service goes
 
-/// Applies the change that a row ends with, or leaves all as it is.
-fn end_row(change: Result<Change, Stop>, w: &mut World) -> Result<Served, OutOfMemory>
-    requires { IfOk change (λ change. is_allowed change w.old.now ≡ true) }
-    ensures now { IfOk result (λ served. end_of_row w.old.now change ≡ (served, w.new.now)) }
-    ensures marks { OnOk result (w.new.marks ≡ w.old.marks) }
-{
-    match change {
-        Ok(change) => apply(change, w),
-        Err(Stop::Status(status)) => Ok(Served::Value(status.0)),
-        Err(Stop::Trap(cause)) => Ok(Served::Trap(cause)),
-    }
-}
-
 /// Reads the arguments of a service, and does its row's work.
 fn work(s: Service, c: &Caller, w: &World) -> Result<Change, Stop>
+    requires { is_boot_service s ≡ true }
     ensures value { result ≡ with_arguments (row s) c.now w.now.now }
     ensures allowed { IfOk result (λ change. is_allowed change w.now.now ≡ true) }
 {
@@ -204,6 +197,7 @@ fn work(s: Service, c: &Caller, w: &World) -> Result<Change, Stop>
 
 /// A service whose price names no argument.
 fn serve_priced_first(w: &mut World, s: Service, c: &Caller) -> Result<Served, OutOfMemory>
+    requires { is_boot_service s ≡ true }
     ensures now { IfOk result (λ answer. priced_first (row s) c.now w.old.now ≡ (answer, w.new.now)) }
     ensures marks { OnOk result (w.new.marks ≡ w.old.marks) }
 {
@@ -216,6 +210,7 @@ fn serve_priced_first(w: &mut World, s: Service, c: &Caller) -> Result<Served, O
 
 /// A service with these arguments, which its price names.
 fn serve_with(w: &mut World, s: Service, c: &Caller, a: &[u64; 16]) -> Result<Served, OutOfMemory>
+    requires { is_boot_service s ≡ true }
     ensures now { IfOk result (λ answer. with_price ((row s).price a.now) ((row s).rest c.now a.now) w.old.now ≡ (answer, w.new.now)) }
     ensures marks { OnOk result (w.new.marks ≡ w.old.marks) }
 {
@@ -228,6 +223,7 @@ fn serve_with(w: &mut World, s: Service, c: &Caller, a: &[u64; 16]) -> Result<Se
 
 /// A service whose price names an argument.
 fn serve_priced_after(w: &mut World, s: Service, c: &Caller) -> Result<Served, OutOfMemory>
+    requires { is_boot_service s ≡ true }
     ensures now { IfOk result (λ answer. priced_after (row s) c.now w.old.now ≡ (answer, w.new.now)) }
     ensures marks { OnOk result (w.new.marks ≡ w.old.marks) }
 {
@@ -239,6 +235,7 @@ fn serve_priced_after(w: &mut World, s: Service, c: &Caller) -> Result<Served, O
 
 /// Serves a call of a boot service.
 fn serve_row(w: &mut World, s: Service, c: &Caller) -> Result<Served, OutOfMemory>
+    requires { is_boot_service s ≡ true }
     ensures now { IfOk result (λ answer. served s c.now w.old.now ≡ (answer, w.new.now)) }
     ensures marks { OnOk result (w.new.marks ≡ w.old.marks) }
 {

@@ -1,17 +1,19 @@
 //! Changes of the world. Except for the price of a service, nothing else in this crate changes it.
-ghost use Rattle.std.specs.Prelude.{◌≡◌, IfOk, OnOk, length, replicate, true};
-ghost use Rattle.guest_memory.specs.GuestMemory.{bytes_of, is_readable, is_writable_range};
+ghost use Rattle.std.specs.Prelude.{◌≡◌, IfOk, OnOk, replicate, true};
+ghost use Rattle.guest_memory.specs.GuestMemory.{is_writable_range};
 ghost use Rattle.service_model.specs.Allowed.{can_store, is_allowed};
+ghost use Rattle.service_model.specs.BootServices.{end_of_row};
 ghost use Rattle.service_model.specs.Changes.{applied};
 
 use crate::buffers::{return_block, store_handles};
+use crate::devices::{read_device, set_command, store_location, write_device};
 use crate::interfaces::{enter, install, install_many, leave};
 use crate::reentries::{connect, uninstall_many};
-use crate::storing::{allot, store, store_if, with_status};
+use crate::storing::{allot, copy_of, store, store_if, with_status};
 use fw_types::{OutOfMemory, Status};
 use fw_world::{World, WorldFault};
 use guest_memory::SegKind;
-use service_model::{Change, Reentry, Served};
+use service_model::{Change, Reentry, Served, Stop};
 use std::alloc::Global;
 
 /// Sets the task priority level, and answers a number.
@@ -58,15 +60,6 @@ fn free_block(at: u64, w: &mut World) -> Result<Served, OutOfMemory>
         Err(WorldFault::OutOfMemory) => Err(OutOfMemory),
         Err(_) => Ok(with_status(Status::INVALID_PARAMETER)),
     }
-}
-
-/// A copy of bytes, which can be read.
-fn copy_of(from: u64, n: u64, w: &World) -> Result<Vec<u8>, OutOfMemory>
-    requires { is_readable w.now.now.soft.memory from n ≡ true }
-    ensures bytes { IfOk result (λ copy. copy.items ≡ bytes_of w.now.now.soft.memory from n) }
-    ensures size { IfOk result (λ copy. length copy.items ≡ n) }
-{
-    Ok(Vec::from_slice(w.alloc(), w.bytes(from, n))?)
 }
 
 /// Copies bytes, which can be read and written, as if through a buffer apart from both.
@@ -183,5 +176,32 @@ pub fn apply(change: Change, w: &mut World) -> Result<Served, OutOfMemory>
             list,
             count,
         } => uninstall_many(handle, list, count, w),
+        Change::ReadDevice(transfer) => read_device(&transfer, w),
+        Change::WriteDevice(transfer) => write_device(&transfer, w),
+        Change::StoreLocation {
+            segment,
+            bus,
+            device,
+            function,
+            location,
+        } => store_location(segment, bus, device, function, location, w),
+        Change::SetCommand { function, command } => set_command(function, command, w),
+    }
+}
+
+/// Applies the change that a row ends with, or leaves all as it is.
+///
+/// # Errors
+///
+/// `OutOfMemory` if there is no memory.
+pub fn end_row(change: Result<Change, Stop>, w: &mut World) -> Result<Served, OutOfMemory>
+    requires { IfOk change (λ change. is_allowed change w.old.now ≡ true) }
+    ensures now { IfOk result (λ served. end_of_row w.old.now change ≡ (served, w.new.now)) }
+    ensures marks { OnOk result (w.new.marks ≡ w.old.marks) }
+{
+    match change {
+        Ok(change) => apply(change, w),
+        Err(Stop::Status(status)) => Ok(Served::Value(status.0)),
+        Err(Stop::Trap(cause)) => Ok(Served::Trap(cause)),
     }
 }

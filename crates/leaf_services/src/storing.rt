@@ -1,6 +1,7 @@
-//! What several changes do: a status is answered, a number is stored, a block of the pool is made.
-ghost use Rattle.std.specs.Prelude.{◌≡◌, IfOk, OnOk, true};
-ghost use Rattle.guest_memory.specs.GuestMemory.{is_writable_range};
+//! What several changes do: a status is answered, a number is stored, a block of the pool is made, bytes
+//! are copied.
+ghost use Rattle.std.specs.Prelude.{◌≡◌, IfOk, OnOk, length, true};
+ghost use Rattle.guest_memory.specs.GuestMemory.{bytes_of, is_readable, is_writable_range};
 ghost use Rattle.service_model.specs.Allowed.{can_store};
 ghost use Rattle.service_model.specs.Changes.{block_allotted, number_stored, stored_if};
 ghost use Rattle.leaf_services.specs.Writable.{StaysWritable};
@@ -52,4 +53,13 @@ pub fn allot(bytes: Vec<u8>, w: &mut World) -> Result<Option<u64>, OutOfMemory>
         Err(WorldFault::OutOfMemory) => Err(OutOfMemory),
         Err(_) => Ok(None),
     }
+}
+
+/// A copy of bytes, which can be read.
+pub fn copy_of(from: u64, n: u64, w: &World) -> Result<Vec<u8>, OutOfMemory>
+    requires { is_readable w.now.now.soft.memory from n ≡ true }
+    ensures bytes { IfOk result (λ copy. copy.items ≡ bytes_of w.now.now.soft.memory from n) }
+    ensures size { IfOk result (λ copy. length copy.items ≡ n) }
+{
+    Ok(Vec::from_slice(w.alloc(), w.bytes(from, n))?)
 }

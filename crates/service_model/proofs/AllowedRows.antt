@@ -1,5 +1,6 @@
--- What rows end with: changes that can be applied, that leave the task priority level, except for the two
--- services that set it, and that do not go on, except for those that disconnect or connect drivers.
+-- What rows end with: changes that can be applied; that leave the task priority level, except for the two
+-- services that set it; that leave all devices, except for the three that write one; and that do not go on,
+-- except for those that disconnect or connect drivers.
 use Rattle.std.proofs.Common.{◌≡◌, ◌≤◌, ℕ, ◌*◌, Bool, true, false, ◌&&◌, not, nat_eq, nat_le, List, find, refl, sym, ap, ◌∙◌, subst, rules, arith}
 use Rattle.std.specs.Prelude.{Option, Some, None, is_some, Ok, if◌then◌else◌}
 use Rattle.std.proofs.lemmas.Bool.{and_from, and_parts, or_right}
@@ -29,35 +30,19 @@ use Rattle.service_model.specs.BootServices.{arg, arg32, arg8, row}
 use Rattle.service_model.specs.Allowed.{RowsAreAllowed, can_store, goes_again, is_allowed}
 use Rattle.service_model.specs.declared.numbers.TheConstants.{TPL_HIGH_LEVEL}
 use Rattle.service_model.specs.Connecting.{connect_controller, disconnect_controller}
-use Rattle.service_model.specs.Untouched.{may_go_on, sets_tpl}
+use Rattle.service_model.specs.Untouched.{may_go_on, sets_tpl, writes_device}
+use Rattle.pci_model.specs.declared.space.Space.TheVariants.{Bar, Config}
 use Rattle.service_model.specs.declared.call.Caller.{Caller}
 use Rattle.service_model.specs.declared.call.Opening.{Opening}
 use Rattle.service_model.specs.declared.plan.Contents.{Contents}
 use Rattle.service_model.specs.declared.plan.Change.{Change}
 use Rattle.service_model.specs.declared.plan.Change.TheVariants.{Block, Disconnect, Free, Open, Remove, SetTpl, Store, Value}
 use Rattle.service_model.specs.declared.plan.Stop.TheVariants.{Status, Trap}
+use Rattle.service_model.proofs.ChangeSorts.{Applies, Fine, FineOnBoard, can-read, can-write, is_apart, is_of_device, is_of_tpl, not-device, not-tpl}
 use Rattle.service_model.proofs.ConnectRows.{connect-allowed}
+use Rattle.service_model.proofs.PciRows.{attributes-fine, location-fine, read-fine, write-fine}
 use Rattle.service_model.proofs.PairRows.{fits-of, lives, pairs-readable}
-use Rattle.service_model.proofs.RowLines.{Says, is-legal, is-same, not-stopped, says-after, says-end, says-found, says-if, says-stop, says-weaker}
-
--- whether a change sets the level
-abbrev pub is_of_tpl : Change → Bool
-is_of_tpl (SetTpl tpl answer) = true
-is_of_tpl _ = false
-
--- a change that can be applied and leaves the level
-abbrev Applies : State → Change → Type 0
-Applies w change = (is_allowed change w ≡ true) × (is_of_tpl change ≡ false)
-
--- and does not go on
-abbrev Fine : State → Change → Type 0
-Fine w change = (is_allowed change w ≡ true) × (is_of_tpl change ≡ false) × (goes_again change ≡ false)
-
-can-write : (n at : ℕ) (w : State) → writable n at w ≡ Ok tt → is_writable_range w.soft.memory at n ≡ true
-can-write n at w is = not-stopped (is_writable_range w.soft.memory at n) (Trap Memory) is
-
-can-read : (n at : ℕ) (w : State) → readable n at w ≡ Ok tt → is_readable w.soft.memory at n ≡ true
-can-read n at w is = not-stopped (is_readable w.soft.memory at n) (Trap Memory) is
+use Rattle.service_model.proofs.RowLines.{Says, is-legal, is-same, says-after, says-end, says-found, says-if, says-stop, says-weaker}
 
 -- ---- installing and uninstalling
 
@@ -86,7 +71,7 @@ live_or_zero-none handle w = by_test (dead handle w) refl
 
 -- a change that can be applied and leaves the level, and that goes on only for an open with BY_DRIVER or EXCLUSIVE
 abbrev Opens : (bits : ℕ) → State → Change → Type 0
-Opens bits w change = (is_allowed change w ≡ true) × (is_of_tpl change ≡ false) × (has_bit_of HOLDING_BITS bits ≡ false → goes_again change ≡ false)
+Opens bits w change = (is_allowed change w ≡ true) × (is_apart change ≡ false) × (has_bit_of HOLDING_BITS bits ≡ false → goes_again change ≡ false)
 
 -- what an open ends with if its interface is there
 record CanOpen (o : Opening) (controller : ℕ) (w : State) : Type 0 where
@@ -240,53 +225,68 @@ set-fine to n byte w = search (rules, says-after, says-end, can-write)
 unbuilt-fine : (w : State) → Says (Fine w) (unbuilt w)
 unbuilt-fine w = says-stop (Fine w) (Status UNSUPPORTED)
 
-rows-fine : (s : Service) (c : Caller) (a : List ℕ) (w : State) → sets_tpl s ≡ false → may_go_on s ≡ false → Says (Fine w) ((row s).rest c a w)
-rows-fine service.RaiseTpl c a w none other = absurd cc
-rows-fine service.RestoreTpl c a w none other = absurd cc
-rows-fine service.AllocatePool c a w none other = allocate-fine (arg a 1) (arg a 2) w
-rows-fine service.FreePool c a w none other = says-end (Fine w) (Free (arg a 0)) (refl, refl, refl)
-rows-fine service.Install c a w none other = install-fine c.image (arg a 0) (arg a 1) (arg32 a 2) (arg a 3) w
-rows-fine service.Uninstall c a w none other = absurd cc
-rows-fine service.HandleProtocol c a w none other = handle-fine (arg a 0) (arg a 1) (arg a 2) w
-rows-fine service.LocateHandle c a w none other = locate-fine (arg32 a 0) (arg a 1) (arg a 3) (arg a 4) w
-rows-fine service.OpenProtocol c a w none other = absurd cc
-rows-fine service.CloseProtocol c a w none other = close-fine (arg a 0) (arg a 1) (arg a 2) (arg a 3) w
-rows-fine service.OpenProtocolInformation c a w none other = information-fine (arg a 0) (arg a 1) (arg a 2) (arg a 3) w
-rows-fine service.ProtocolsPerHandle c a w none other = protocols-fine (arg a 0) (arg a 1) (arg a 2) w
-rows-fine service.LocateHandleBuffer c a w none other = locate_buffer-fine (arg32 a 0) (arg a 1) (arg a 3) (arg a 4) w
-rows-fine service.LocateProtocol c a w none other = locate_protocol-fine (arg a 0) (arg a 2) w
-rows-fine service.InstallMultiple c a w none other = many-fine c.image (arg a 0) (first_pair c.sp) w
-rows-fine service.Stall c a w none other = says-end (Fine w) (Value 0) (refl, refl, refl)
-rows-fine service.CopyMem c a w none other = copy-fine (arg a 0) (arg a 1) (arg a 2) w
-rows-fine service.SetMem c a w none other = set-fine (arg a 0) (arg a 1) (arg8 a 2) w
-rows-fine service.ConnectController c a w none other = absurd cc
-rows-fine service.DisconnectController c a w none other = absurd cc
-rows-fine service.UninstallMultiple c a w none other = absurd cc
-rows-fine service.MemRead c a w none other = unbuilt-fine w
-rows-fine service.MemWrite c a w none other = unbuilt-fine w
-rows-fine service.PciRead c a w none other = unbuilt-fine w
-rows-fine service.PciWrite c a w none other = unbuilt-fine w
-rows-fine service.GetLocation c a w none other = unbuilt-fine w
-rows-fine service.Attributes c a w none other = unbuilt-fine w
-rows-fine service.Unbuilt c a w none other = unbuilt-fine w
+rows-fine : (s : Service) (c : Caller) (a : List ℕ) (w : State) → sets_tpl s ≡ false → may_go_on s ≡ false → writes_device s ≡ false → Says (Fine w) ((row s).rest c a w)
+rows-fine service.RaiseTpl c a w none other reads = absurd cc
+rows-fine service.RestoreTpl c a w none other reads = absurd cc
+rows-fine service.AllocatePool c a w none other reads = allocate-fine (arg a 1) (arg a 2) w
+rows-fine service.FreePool c a w none other reads = says-end (Fine w) (Free (arg a 0)) (refl, refl, refl)
+rows-fine service.Install c a w none other reads = install-fine c.image (arg a 0) (arg a 1) (arg32 a 2) (arg a 3) w
+rows-fine service.Uninstall c a w none other reads = absurd cc
+rows-fine service.HandleProtocol c a w none other reads = handle-fine (arg a 0) (arg a 1) (arg a 2) w
+rows-fine service.LocateHandle c a w none other reads = locate-fine (arg32 a 0) (arg a 1) (arg a 3) (arg a 4) w
+rows-fine service.OpenProtocol c a w none other reads = absurd cc
+rows-fine service.CloseProtocol c a w none other reads = close-fine (arg a 0) (arg a 1) (arg a 2) (arg a 3) w
+rows-fine service.OpenProtocolInformation c a w none other reads = information-fine (arg a 0) (arg a 1) (arg a 2) (arg a 3) w
+rows-fine service.ProtocolsPerHandle c a w none other reads = protocols-fine (arg a 0) (arg a 1) (arg a 2) w
+rows-fine service.LocateHandleBuffer c a w none other reads = locate_buffer-fine (arg32 a 0) (arg a 1) (arg a 3) (arg a 4) w
+rows-fine service.LocateProtocol c a w none other reads = locate_protocol-fine (arg a 0) (arg a 2) w
+rows-fine service.InstallMultiple c a w none other reads = many-fine c.image (arg a 0) (first_pair c.sp) w
+rows-fine service.Stall c a w none other reads = says-end (Fine w) (Value 0) (refl, refl, refl)
+rows-fine service.CopyMem c a w none other reads = copy-fine (arg a 0) (arg a 1) (arg a 2) w
+rows-fine service.SetMem c a w none other reads = set-fine (arg a 0) (arg a 1) (arg8 a 2) w
+rows-fine service.ConnectController c a w none other reads = absurd cc
+rows-fine service.DisconnectController c a w none other reads = absurd cc
+rows-fine service.UninstallMultiple c a w none other reads = absurd cc
+rows-fine service.MemRead c a w none other reads = read-fine (arg a 0) (arg32 a 1) (Bar (arg8 a 2)) (arg a 3) (arg a 4) (arg a 5) w
+rows-fine service.MemWrite c a w none other reads = absurd cc
+rows-fine service.PciRead c a w none other reads = read-fine (arg a 0) (arg32 a 1) Config (arg32 a 2) (arg a 3) (arg a 4) w
+rows-fine service.PciWrite c a w none other reads = absurd cc
+rows-fine service.GetLocation c a w none other reads = location-fine (arg a 0) (arg a 1) (arg a 2) (arg a 3) (arg a 4) w
+rows-fine service.Attributes c a w none other reads = absurd cc
+rows-fine service.Unbuilt c a w none other reads = unbuilt-fine w
 
--- those that may go on leave the level too
-connect-leaves : (controller list path recursive : ℕ) (w : State) → Says (λ change. is_of_tpl change ≡ false) (connect_controller controller list path recursive w)
+-- those that write a device
+pub writing-fine : (s : Service) (c : Caller) (a : List ℕ) (w : State) → writes_device s ≡ true → Says (FineOnBoard w) ((row s).rest c a w)
+writing-fine service.MemWrite c a w writes = write-fine (arg a 0) (arg32 a 1) (Bar (arg8 a 2)) (arg a 3) (arg a 4) (arg a 5) w
+writing-fine service.PciWrite c a w writes = write-fine (arg a 0) (arg32 a 1) Config (arg32 a 2) (arg a 3) (arg a 4) w
+writing-fine service.Attributes c a w writes = attributes-fine (arg a 0) (arg32 a 1) (arg a 2) (arg a 3) w
+writing-fine s c a w writes = absurd cc
+
+-- those that may go on leave the level and all devices too
+connect-leaves : (controller list path recursive : ℕ) (w : State) → Says (λ change. is_apart change ≡ false) (connect_controller controller list path recursive w)
 connect-leaves controller list path recursive w = search (rules, says-after, says-found, says-end) depth 30
 
-disconnect-leaves : (controller driver child : ℕ) (w : State) → Says (λ change. is_of_tpl change ≡ false) (disconnect_controller controller driver child w)
-disconnect-leaves controller driver child w = says-end (λ change. is_of_tpl change ≡ false) (Disconnect controller driver child) refl
+disconnect-leaves : (controller driver child : ℕ) (w : State) → Says (λ change. is_apart change ≡ false) (disconnect_controller controller driver child w)
+disconnect-leaves controller driver child w = says-end (λ change. is_apart change ≡ false) (Disconnect controller driver child) refl
 
 disconnect-allowed : (controller driver child : ℕ) (w : State) → Says (λ change. is_allowed change w ≡ true) (disconnect_controller controller driver child w)
 disconnect-allowed controller driver child w = says-end (λ change. is_allowed change w ≡ true) (Disconnect controller driver child) refl
 
+-- neither sets the level nor writes a device
+rows-apart : (s : Service) (c : Caller) (a : List ℕ) (w : State) → sets_tpl s ≡ false → writes_device s ≡ false → Says (λ change. is_apart change ≡ false) ((row s).rest c a w)
+rows-apart service.ConnectController c a w none reads change result = connect-leaves (arg a 0) (arg a 1) (arg a 2) (arg8 a 3) w change result
+rows-apart service.DisconnectController c a w none reads change result = disconnect-leaves (arg a 0) (arg a 1) (arg a 2) w change result
+rows-apart service.OpenProtocol c a w none reads change result = (open-applies (arg a 0) (arg a 1) (arg a 2) (arg a 3) (arg a 4) (arg32 a 5) w change result).1
+rows-apart service.Uninstall c a w none reads change result = (uninstall-applies (arg a 0) (arg a 1) (arg a 2) w change result).1
+rows-apart service.UninstallMultiple c a w none reads change result = (many-applies (arg a 0) (first_pair c.sp) w change result).1
+rows-apart s c a w none reads change result = (rows-fine s c a w none refl reads change result).1
+
 pub rows-leave : (s : Service) (c : Caller) (a : List ℕ) (w : State) → sets_tpl s ≡ false → Says (λ change. is_of_tpl change ≡ false) ((row s).rest c a w)
-rows-leave service.ConnectController c a w none change result = connect-leaves (arg a 0) (arg a 1) (arg a 2) (arg8 a 3) w change result
-rows-leave service.DisconnectController c a w none change result = disconnect-leaves (arg a 0) (arg a 1) (arg a 2) w change result
-rows-leave service.OpenProtocol c a w none change result = (open-applies (arg a 0) (arg a 1) (arg a 2) (arg a 3) (arg a 4) (arg32 a 5) w change result).1
-rows-leave service.Uninstall c a w none change result = (uninstall-applies (arg a 0) (arg a 1) (arg a 2) w change result).1
-rows-leave service.UninstallMultiple c a w none change result = (many-applies (arg a 0) (first_pair c.sp) w change result).1
-rows-leave s c a w none change result = (rows-fine s c a w none refl change result).1
+rows-leave s c a w none change result = by_service (writes_device s) refl
+  where
+    by_service : (writes : Bool) → writes_device s ≡ writes → is_of_tpl change ≡ false
+    by_service true is = (writing-fine s c a w is change result).1
+    by_service false is = not-tpl change (rows-apart s c a w none is change result)
 
 -- the two that set the level answer a level
 abbrev pub IsLevel : Change → Type 0
@@ -294,7 +294,7 @@ IsLevel (SetTpl tpl answer) = answer ≤ TPL_HIGH_LEVEL
 IsLevel _ = Unit {0}
 
 abbrev OfTpl : State → Change → Type 0
-OfTpl w change = (is_allowed change w ≡ true) × IsLevel change × (goes_again change ≡ false)
+OfTpl w change = (is_allowed change w ≡ true) × IsLevel change × (goes_again change ≡ false) × (is_of_device change ≡ false)
 
 raise-fine : (new : ℕ) (w : State) → Says (OfTpl w) (raise_tpl new w)
 raise-fine new w =
@@ -303,14 +303,20 @@ raise-fine new w =
     let both = and_parts (nat_le w.soft.tpl new) (nat_le new TPL_HIGH_LEVEL) can in
     let low : w.soft.tpl ≤ new = grind (arith, nat_tests, both.0) in
     let high : new ≤ TPL_HIGH_LEVEL = grind (arith, nat_tests, both.1) in
-    says-end (OfTpl w) (SetTpl new w.soft.tpl) (refl, omega arith, refl))
-    (λ stays. says-end (OfTpl w) (Value w.soft.tpl) (refl, tt, refl))
+    says-end (OfTpl w) (SetTpl new w.soft.tpl) (refl, omega arith, refl, refl))
+    (λ stays. says-end (OfTpl w) (Value w.soft.tpl) (refl, tt, refl, refl))
 
 restore-fine : (old : ℕ) (w : State) → Says (OfTpl w) (restore_tpl old w)
 restore-fine old w =
     says-if (OfTpl w) (nat_le old w.soft.tpl) _ _
-    (λ can. says-end (OfTpl w) (SetTpl old SUCCESS.0) (refl, omega arith, refl))
-    (λ stays. says-end (OfTpl w) (Value SUCCESS.0) (refl, tt, refl))
+    (λ can. says-end (OfTpl w) (SetTpl old SUCCESS.0) (refl, omega arith, refl, refl))
+    (λ stays. says-end (OfTpl w) (Value SUCCESS.0) (refl, tt, refl, refl))
+
+-- a service that writes no device ends with no change that does
+pub rows-read : (s : Service) (c : Caller) (a : List ℕ) (w : State) → writes_device s ≡ false → Says (λ change. is_of_device change ≡ false) ((row s).rest c a w)
+rows-read service.RaiseTpl c a w reads change result = (raise-fine (arg a 0) w change result).3
+rows-read service.RestoreTpl c a w reads change result = (restore-fine (arg a 0) w change result).3
+rows-read s c a w reads change result = not-device change (rows-apart s c a w refl reads change result)
 
 pub rows-allowed : RowsAreAllowed
 rows-allowed service.RaiseTpl c a w change result = (raise-fine (arg a 0) w change result).0
@@ -320,7 +326,10 @@ rows-allowed service.DisconnectController c a w change result = disconnect-allow
 rows-allowed service.OpenProtocol c a w change result = (open-applies (arg a 0) (arg a 1) (arg a 2) (arg a 3) (arg a 4) (arg32 a 5) w change result).0
 rows-allowed service.Uninstall c a w change result = (uninstall-applies (arg a 0) (arg a 1) (arg a 2) w change result).0
 rows-allowed service.UninstallMultiple c a w change result = (many-applies (arg a 0) (first_pair c.sp) w change result).0
-rows-allowed s c a w change result = (rows-fine s c a w refl refl change result).0
+rows-allowed service.MemWrite c a w change result = (writing-fine service.MemWrite c a w refl change result).0
+rows-allowed service.PciWrite c a w change result = (writing-fine service.PciWrite c a w refl change result).0
+rows-allowed service.Attributes c a w change result = (writing-fine service.Attributes c a w refl change result).0
+rows-allowed s c a w change result = (rows-fine s c a w refl refl refl change result).0
 
 level-of : (change : Change) → is_of_tpl change ≡ false → IsLevel change
 level-of (SetTpl tpl answer) other = absurd cc
@@ -334,4 +343,7 @@ rows-level s c a w change result = level-of change (rows-leave s c a w refl chan
 pub rows-end : (s : Service) (c : Caller) (a : List ℕ) (w : State) → may_go_on s ≡ false → Says (λ change. goes_again change ≡ false) ((row s).rest c a w)
 rows-end service.RaiseTpl c a w other change result = (raise-fine (arg a 0) w change result).2
 rows-end service.RestoreTpl c a w other change result = (restore-fine (arg a 0) w change result).2
-rows-end s c a w other change result = (rows-fine s c a w refl other change result).2
+rows-end service.MemWrite c a w other change result = (writing-fine service.MemWrite c a w refl change result).2
+rows-end service.PciWrite c a w other change result = (writing-fine service.PciWrite c a w refl change result).2
+rows-end service.Attributes c a w other change result = (writing-fine service.Attributes c a w refl change result).2
+rows-end s c a w other change result = (rows-fine s c a w refl other refl change result).2

@@ -28,7 +28,7 @@ use Rattle.service_model.specs.declared.call.Reentry.{Reentry}
 use Rattle.service_model.specs.declared.call.Served.{Served}
 use Rattle.service_model.specs.declared.call.Served.TheVariants as served
 use Rattle.service_model.specs.declared.plan.Change.{Change}
-use Rattle.service_model.specs.declared.plan.Change.TheVariants.{Allot, Block, Close, Connect, Copy, Disconnect, Fill, Free, Handles, Install, InstallMany, Open, Remove, SetTpl, Store, Uninstall, UninstallMany, Value}
+use Rattle.service_model.specs.declared.plan.Change.TheVariants.{Allot, Block, Close, Connect, Copy, Disconnect, Fill, Free, Handles, Install, InstallMany, Open, ReadDevice, Remove, SetCommand, SetTpl, Store, StoreLocation, Uninstall, UninstallMany, Value, WriteDevice}
 use Rattle.service_model.specs.declared.plan.Stop.{Stop}
 use Rattle.service_model.specs.declared.plan.Stop.TheVariants as stop
 use Rattle.service_model.proofs.RowLines.{Says, TrapsByMemory, traps-end, traps-found, traps-status}
@@ -154,6 +154,10 @@ change-answers (Disconnect controller driver child) w level = goes-on w _
 change-answers (Remove removal) w level = goes-on w _
 change-answers (Uninstall i) w level = goes-on w _
 change-answers (UninstallMany handle list count) w level = goes-on w _
+change-answers (ReadDevice t) w level = succeeds w _
+change-answers (WriteDevice t) w level = succeeds w _
+change-answers (StoreLocation segment bus device function at) w level = succeeds w _
+change-answers (SetCommand function command) w level = succeeds w _
 
 -- what goes on leaves the state
 pub reentries-go : ReentriesChangeNothing
@@ -197,11 +201,13 @@ others-end s c w other =
 
 pub traps-change-nothing : TrapsChangeNothing
 traps-change-nothing s c w =
-    served-by (λ end. (cause : Cause) → end.0 ≡ served.Trap cause → end.1.soft ≡ w.soft) s c w
-    (λ cause is. refl)
-    (λ cause is. refl)
-    (λ price cause is. refl)
-    (λ price a cause is. ap (λ (left : State). left.soft) ((work-answers s c a (paid price w)).traps cause is).0)
+    served-by (λ end. (cause : Cause) → end.0 ≡ served.Trap cause → (end.1.soft ≡ w.soft) × (end.1.hard.board ≡ w.hard.board)) s c w
+    (λ cause is. (refl, refl))
+    (λ cause is. (refl, refl))
+    (λ price cause is. (refl, refl))
+    (λ price a cause is.
+    let same = ((work-answers s c a (paid price w)).traps cause is).0 in
+    (ap (λ (left : State). left.soft) same, ap (λ (left : State). left.hard.board) same))
 
 pub traps-for-cause : TrapsForItsCause
 traps-for-cause s c w =

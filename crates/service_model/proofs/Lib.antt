@@ -1,5 +1,7 @@
 pub mod RowLines
 pub mod PairRows
+pub mod ChangeSorts
+pub mod PciRows
 pub mod AllowedRows
 pub mod ServiceCases
 pub mod UntouchedParts

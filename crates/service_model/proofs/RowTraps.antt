@@ -19,6 +19,8 @@ use Rattle.service_model.specs.BootServices.{arg, arg32, arg8, row}
 use Rattle.service_model.specs.declared.call.Caller.{Caller}
 use Rattle.service_model.specs.declared.call.Opening.{Opening}
 use Rattle.service_model.specs.declared.plan.Change.TheVariants.{Disconnect, Free, Open, Remove, Store, Value}
+use Rattle.pci_model.specs.declared.space.Space.TheVariants.{Bar, Config}
+use Rattle.service_model.proofs.PciRows.{attributes-traps, location-traps, read-traps, write-traps}
 use Rattle.service_model.proofs.RowLines.{TrapsByMemory, traps-after, traps-each, traps-end, traps-found, traps-if, traps-memory, traps-missing, traps-status, traps-unread}
 
 -- ---- installing and uninstalling
@@ -171,10 +173,10 @@ rows-trap service.SetMem c a w = set-traps (arg a 0) (arg a 1) (arg8 a 2) w
 rows-trap service.ConnectController c a w = connect-traps (arg a 0) (arg a 1) (arg a 2) (arg8 a 3) w
 rows-trap service.DisconnectController c a w = traps-end (Disconnect (arg a 0) (arg a 1) (arg a 2))
 rows-trap service.UninstallMultiple c a w = many_uninstall-traps (arg a 0) (first_pair c.sp) w
-rows-trap service.MemRead c a w = unbuilt-traps w
-rows-trap service.MemWrite c a w = unbuilt-traps w
-rows-trap service.PciRead c a w = unbuilt-traps w
-rows-trap service.PciWrite c a w = unbuilt-traps w
-rows-trap service.GetLocation c a w = unbuilt-traps w
-rows-trap service.Attributes c a w = unbuilt-traps w
+rows-trap service.MemRead c a w = read-traps (arg a 0) (arg32 a 1) (Bar (arg8 a 2)) (arg a 3) (arg a 4) (arg a 5) w
+rows-trap service.MemWrite c a w = write-traps (arg a 0) (arg32 a 1) (Bar (arg8 a 2)) (arg a 3) (arg a 4) (arg a 5) w
+rows-trap service.PciRead c a w = read-traps (arg a 0) (arg32 a 1) Config (arg32 a 2) (arg a 3) (arg a 4) w
+rows-trap service.PciWrite c a w = write-traps (arg a 0) (arg32 a 1) Config (arg32 a 2) (arg a 3) (arg a 4) w
+rows-trap service.GetLocation c a w = location-traps (arg a 0) (arg a 1) (arg a 2) (arg a 3) (arg a 4) w
+rows-trap service.Attributes c a w = attributes-traps (arg a 0) (arg32 a 1) (arg a 2) (arg a 3) w
 rows-trap service.Unbuilt c a w = unbuilt-traps w

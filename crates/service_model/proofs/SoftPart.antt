@@ -1,7 +1,7 @@
 -- What services leave of the soft part: the segments that no code may write, the stacks, and what holds of
 -- every soft part.
-use Rattle.std.proofs.Common.{◌≡◌, inl, inr, ℕ, ◌-◌, ◌^◌, Bool, true, false, not, ◌&&◌, nat_eq, nat_lt, List, [], ◌∷◌, length, drop, replicate, length-append, length-take, length-drop, refl, sym, ◌∙◌, arith}
-use Rattle.std.specs.Prelude.{zero, suc, ◌*◌, Option, Some, None, is_ok, is_some, Result, Ok, Err, if◌then◌else◌}
+use Rattle.std.proofs.Common.{◌≡◌, inl, inr, ℕ, ◌-◌, ◌^◌, Bool, true, false, not, ◌&&◌, nat_eq, nat_lt, List, [], ◌∷◌, length, drop, take, replicate, length-append, length-take, length-drop, refl, sym, ◌∙◌, arith}
+use Rattle.std.specs.Prelude.{zero, suc, ◌+◌, ◌*◌, Option, Some, None, unwrap_or, is_ok, is_some, Result, Ok, Err, if◌then◌else◌}
 use Rattle.std.specs.List.{list_any}
 use Rattle.std.proofs.lemmas.Bool.{and_parts, eqb-true, or_cases, or_parts}
 use Rattle.std.proofs.lemmas.Bool.Decides.{nat_tests}
@@ -33,7 +33,9 @@ use Rattle.world_model.specs.Marks.{stacks}
 use Rattle.world_model.specs.StackLaws.{AllottingKeepsStacks, FreeingKeepsStacks, PuttingKeepsStacks}
 use Rattle.world_model.specs.declared.fault.WorldFault.{WorldFault}
 use Rattle.world_model.specs.declared.fault.WorldFault.TheVariants as fault
-use Rattle.service_model.specs.Changes.{allot_served, applied, block_made, block_served, both_stored, bytes_stored, free_served, install_served, many_served, new_handle_stored, number_stored, open_served, pair_added, pair_installed, pairs_installed, stored_if}
+use Rattle.pci_model.specs.BoardLines.{Location}
+use Rattle.pci_model.specs.Spaces.{has_range, space_of}
+use Rattle.service_model.specs.Changes.{allot_served, applied, block_made, block_served, both_stored, bytes_stored, device_bytes, free_served, location_stored, install_served, many_served, new_handle_stored, number_stored, open_served, pair_added, pair_installed, pairs_installed, stored_if}
 use Rattle.service_model.specs.Many.{pair_at}
 use Rattle.service_model.specs.Words.{◌>>=◌}
 use Rattle.service_model.specs.Contents.{contents_bytes, contents_count, number_bytes}
@@ -43,7 +45,8 @@ use Rattle.service_model.specs.Untouched.{FixedStay, KeptStays, StacksStay, left
 use Rattle.service_model.specs.declared.call.Caller.{Caller}
 use Rattle.service_model.specs.declared.call.Served.{Served}
 use Rattle.service_model.specs.declared.plan.Change.{Change}
-use Rattle.service_model.specs.declared.plan.Change.TheVariants.{Value, SetTpl, Allot, Free, Copy, Fill, Store, Install, InstallMany, Open, Close, Handles, Block, Connect, Disconnect, Remove, Uninstall, UninstallMany}
+use Rattle.service_model.specs.declared.plan.Change.TheVariants.{Value, SetTpl, Allot, Free, Copy, Fill, Store, Install, InstallMany, Open, Close, Handles, Block, Connect, Disconnect, Remove, Uninstall, UninstallMany, ReadDevice, WriteDevice, StoreLocation, SetCommand}
+use Rattle.service_model.specs.declared.plan.Transfer.{Transfer}
 use Rattle.service_model.specs.declared.plan.Stop.{Stop}
 use Rattle.service_model.specs.declared.plan.Stop.TheVariants as stop
 use Rattle.service_model.proofs.RowLines.{Says}
@@ -302,6 +305,31 @@ handles-go R by ground name size buffer w kept can =
     (store-goes R by size (8 * length found) w kept both.0)
     (by.put after.soft buffer bytes still room)
 
+-- as many bytes of a device as are asked for
+length-device_bytes : (t : Transfer) (w : State) → has_range (space_of w.hard.board t.function t.space) (t.at + t.n) ≡ true → length (device_bytes t w) ≡ t.n
+length-device_bytes t w range = by_space (space_of w.hard.board t.function t.space) range
+  where
+    by_space : (found : Option (List ℕ)) → has_range found (t.at + t.n) ≡ true → length (take t.n (drop t.at (unwrap_or found []))) ≡ t.n
+    by_space None range = absurd cc
+    by_space (Some bytes) range = grind (arith, nat_tests, range, length-take t.n (drop t.at bytes), length-drop t.at bytes)
+
+-- the four numbers of a location, one after the other
+location-goes : (R : Soft → Soft → Type 0) → IsKeptBy R → Ground → (segment bus device function : ℕ) (at : Location) (w : State) → IsKept w.soft
+    → is_allowed (StoreLocation segment bus device function at) w ≡ true → R w.soft (location_stored segment bus device function at w).soft
+location-goes R by ground segment bus device function at w kept can =
+    let one = and_parts (is_writable_range w.soft.memory segment 8) (is_writable_range w.soft.memory bus 8 && (is_writable_range w.soft.memory device 8 && is_writable_range w.soft.memory function 8)) can in
+    let two = and_parts (is_writable_range w.soft.memory bus 8) (is_writable_range w.soft.memory device 8 && is_writable_range w.soft.memory function 8) one.1 in
+    let three = and_parts (is_writable_range w.soft.memory device 8) (is_writable_range w.soft.memory function 8) two.1 in
+    let mid : State = number_stored bus at.0 (number_stored segment 0 w) in
+    let still : IsKept mid.soft = two-go StillKept ground.keeps ground.keeps ground.puts segment 0 bus at.0 w kept one.0 two.0 in
+    by.after w.soft mid.soft (number_stored function at.2 (number_stored device at.1 mid)).soft
+    (two-go R by ground.keeps ground.puts segment 0 bus at.0 w kept one.0 two.0)
+    (two-go R by ground.keeps ground.puts device at.1 function at.2 mid still (later device three.0) (later function three.1))
+  where
+    later : (place : ℕ) → is_writable_range w.soft.memory place 8 ≡ true → is_writable_range (number_stored bus at.0 (number_stored segment 0 w)).soft.memory place 8 ≡ true
+    later place can =
+        ground.puts (number_stored segment 0 w).soft (little_bytes 8 at.0) bus place 8 (ground.puts w.soft (little_bytes 8 0) segment place 8 can)
+
 change-goes : (R : Soft → Soft → Type 0) → IsKeptBy R → Ground → (change : Change) (w : State) → IsKept w.soft → is_allowed change w ≡ true → Goes R w (applied change w)
 change-goes R by ground (Value value) w kept can = by.same w.soft kept
 change-goes R by ground (SetTpl tpl answer) w kept can = by.tpl w.soft tpl kept
@@ -341,6 +369,14 @@ change-goes R by ground (Disconnect controller driver child) w kept can = by.sam
 change-goes R by ground (Remove removal) w kept can = by.same w.soft kept
 change-goes R by ground (Uninstall i) w kept can = by.same w.soft kept
 change-goes R by ground (UninstallMany handle list count) w kept can = by.same w.soft kept
+change-goes R by ground (ReadDevice t) w kept can =
+    let both = and_parts (is_writable_range w.soft.memory t.buffer t.n) (has_range (space_of w.hard.board t.function t.space) (t.at + t.n)) can in
+    let long : length (device_bytes t w) ≡ t.n = length-device_bytes t w both.1 in
+    let room : is_writable_range w.soft.memory t.buffer (length (device_bytes t w)) ≡ true = rw long both.0 in
+    by.put w.soft t.buffer (device_bytes t w) kept room
+change-goes R by ground (WriteDevice t) w kept can = by.same w.soft kept
+change-goes R by ground (StoreLocation segment bus device function at) w kept can = location-goes R by ground segment bus device function at w kept can
+change-goes R by ground (SetCommand function command) w kept can = by.same w.soft kept
 
 pub end-goes : (R : Soft → Soft → Type 0) → IsKeptBy R → Ground → (result : Result Change Stop) (w : State) → IsKept w.soft → Says (λ change. is_allowed change w ≡ true) result → Goes R w (end_of_row w result)
 end-goes R by ground (Ok change) w kept can = change-goes R by ground change w kept (can change refl)

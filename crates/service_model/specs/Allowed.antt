@@ -1,5 +1,5 @@
 -- What must hold of the state for a change to be applied. A row ends with no other change.
-use Rattle.std.specs.Prelude.{◌≡◌, ◌≤◌, ℕ, Bool, true, false, ◌*◌, ◌&&◌, not, nat_eq, nat_le, nat_lt, is_ok, is_some, List, length, Option, Some, None, Result, Ok, Err, if◌then◌else◌}
+use Rattle.std.specs.Prelude.{◌≡◌, ◌≤◌, ℕ, Bool, true, false, ◌+◌, ◌*◌, ◌&&◌, not, nat_eq, nat_le, nat_lt, is_ok, is_some, List, length, Option, Some, None, Result, Ok, Err, if◌then◌else◌}
 use Rattle.std.specs.List.{list_all, range_with_len}
 use Rattle.fw_types.specs.Attr.{is_legal}
 use Rattle.handle_db.specs.Database.{Database, handles_with, interface_of, is_live}
@@ -8,6 +8,8 @@ use Rattle.open_records.specs.Verdicts.{judge, may_enter}
 use Rattle.service_thunks.specs.declared.service.Service.{Service}
 use Rattle.guest_memory.specs.GuestMemory.{is_readable, is_writable_range, number_of, put_bytes}
 use Rattle.guest_memory.specs.declared.segment.SegKind.TheVariants.{Pool}
+use Rattle.pci_model.specs.Devices.{config_read}
+use Rattle.pci_model.specs.Spaces.{has_range, space_of}
 use Rattle.world_model.specs.World.{Soft, State}
 use Rattle.world_model.specs.Blocks.{block_added, is_block_full}
 use Rattle.world_model.specs.Interfaces.{firmware, is_lasting}
@@ -21,11 +23,11 @@ use Rattle.service_model.specs.Connecting.{connect_controller, has_handle}
 use Rattle.service_model.specs.Untouched.{goes_on}
 use Rattle.service_model.specs.Many.{all_fit, pair_at, pair_interface}
 use Rattle.service_model.specs.Changes.{applied, pairs_installed}
-use Rattle.service_model.specs.declared.numbers.TheConstants.{CONTEXT_SLOTS, MOST_PAIRS}
+use Rattle.service_model.specs.declared.numbers.TheConstants.{COMMAND, CONTEXT_SLOTS, MOST_PAIRS}
 use Rattle.service_model.specs.declared.call.Caller.{Caller}
 use Rattle.service_model.specs.declared.plan.Stop.{Stop}
 use Rattle.service_model.specs.declared.plan.Change.{Change}
-use Rattle.service_model.specs.declared.plan.Change.TheVariants.{Allot, Block, Close, Connect, Copy, Disconnect, Fill, Free, Handles, Install, InstallMany, Open, Remove, SetTpl, Store, Uninstall, UninstallMany, Value}
+use Rattle.service_model.specs.declared.plan.Change.TheVariants.{Allot, Block, Close, Connect, Copy, Disconnect, Fill, Free, Handles, Install, InstallMany, Open, ReadDevice, Remove, SetCommand, SetTpl, Store, StoreLocation, Uninstall, UninstallMany, Value, WriteDevice}
 
 -- whether a number can be stored, if a place is given for it
 abbrev pub can_store : Option ℕ → State → Bool
@@ -66,7 +68,8 @@ abbrev pub can_read_pairs : (list count : ℕ) → State → Bool
 can_read_pairs list count w = nat_le count MOST_PAIRS && list_all (λ i. is_ok (pair_at list i w)) (range_with_len 0 count)
 
 -- Whether a change can be applied: the bytes that it reads can be read, and those that it writes be
--- written; pairs can be installed; an open can be recorded; and each slot of a list of handles has one.
+-- written, in memory and in a device; pairs can be installed; an open can be recorded; and each slot of a list
+-- of handles has one.
 abbrev pub is_allowed : Change → State → Bool
 is_allowed (Value value) w = true
 is_allowed (SetTpl tpl answer) w = true
@@ -90,6 +93,14 @@ is_allowed (Disconnect controller driver child) w = true
 is_allowed (Remove removal) w = true
 is_allowed (Uninstall i) w = true
 is_allowed (UninstallMany handle list count) w = can_read_pairs list count w
+is_allowed (ReadDevice t) w = is_writable_range w.soft.memory t.buffer t.n && has_range (space_of w.hard.board t.function t.space) (t.at + t.n)
+is_allowed (WriteDevice t) w = is_readable w.soft.memory t.buffer t.n && has_range (space_of w.hard.board t.function t.space) (t.at + t.n)
+is_allowed (StoreLocation segment bus device function at) w =
+    is_writable_range w.soft.memory segment 8
+    && (is_writable_range w.soft.memory bus 8
+    && (is_writable_range w.soft.memory device 8
+    && is_writable_range w.soft.memory function 8))
+is_allowed (SetCommand function value) w = is_ok (config_read w.hard.board function COMMAND 2)
 
 -- a row ends with no change that cannot be applied
 abbrev pub RowsAreAllowed : Type 0

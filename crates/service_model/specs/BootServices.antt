@@ -1,11 +1,12 @@
--- The table of boot services (UEFI 2.8, 'EFI Boot Services Table'), and how a service goes. Prices are
--- this project's own.
+-- The table of services: the boot services (UEFI 2.8, 'EFI Boot Services Table') and the functions of PCI I/O.
+-- And how a service goes. Prices are this project's own.
 use Rattle.std.specs.Prelude.{ℕ, ◌+◌, ◌-◌, ◌/◌, ◌%◌, ◌^◌, Bool, true, false, nat_lt, List, replicate, slice_index, Result, Ok, Err, if◌then◌else◌}
 use Rattle.fw_types.specs.declared.limits.TheConstants.{MOST_BYTES}
 use Rattle.fw_types.specs.declared.event.Cause.TheVariants.{Budget}
 use Rattle.service_thunks.specs.Arguments.{most_arguments}
 use Rattle.service_thunks.specs.declared.service.Service.{Service}
 use Rattle.service_thunks.specs.declared.service.Service.TheVariants.{RaiseTpl, RestoreTpl, AllocatePool, FreePool, Install, Uninstall, HandleProtocol, LocateHandle, Stall, ConnectController, DisconnectController, OpenProtocol, CloseProtocol, OpenProtocolInformation, ProtocolsPerHandle, LocateHandleBuffer, LocateProtocol, InstallMultiple, UninstallMultiple, CopyMem, SetMem, MemRead, MemWrite, PciRead, PciWrite, GetLocation, Attributes, Unbuilt}
+use Rattle.pci_model.specs.declared.space.Space.TheVariants.{Bar, Config}
 use Rattle.world_model.specs.World.{State, on_hard}
 use Rattle.world_model.specs.Units.{units_spent}
 use Rattle.service_model.specs.Words.{◌>>=◌, slots}
@@ -13,6 +14,7 @@ use Rattle.service_model.specs.Rows.{allocate_pool, copy_mem, free_pool, raise_t
 use Rattle.service_model.specs.Protocols.{close, handle_protocol, install, locate_handle, locate_handle_buffer, locate_protocol, open_protocol, open_protocol_information, protocols_per_handle, uninstall}
 use Rattle.service_model.specs.Many.{first_pair, install_multiple, uninstall_multiple}
 use Rattle.service_model.specs.Connecting.{connect_controller, disconnect_controller}
+use Rattle.service_model.specs.PciIo.{attributes, get_location, read_device, transfer_price, write_device}
 use Rattle.service_model.specs.Changes.{applied, stop_answered}
 use Rattle.service_model.specs.declared.call.Caller.{Caller}
 use Rattle.service_model.specs.declared.call.Served.{Served}
@@ -83,13 +85,13 @@ row UninstallMultiple = fixed 1 16 (λ c a. uninstall_multiple (arg a 0) (first_
 row CopyMem = priced 3 (λ a. 1 + per 8 (arg a 2)) (λ c a. copy_mem (arg a 0) (arg a 1) (arg a 2))
 row SetMem = priced 3 (λ a. 1 + per 8 (arg a 1)) (λ c a. set_mem (arg a 0) (arg a 1) (arg8 a 2))
 row Unbuilt = unbuilt_row
--- the functions of PCI I/O
-row MemRead = unbuilt_row
-row MemWrite = unbuilt_row
-row PciRead = unbuilt_row
-row PciWrite = unbuilt_row
-row GetLocation = unbuilt_row
-row Attributes = unbuilt_row
+-- the functions of PCI I/O (UEFI 2.8, 14.4: EFI PCI I/O Protocol)
+row MemRead = priced 6 (λ a. transfer_price (arg a 4)) (λ c a. read_device (arg a 0) (arg32 a 1) (Bar (arg8 a 2)) (arg a 3) (arg a 4) (arg a 5))
+row MemWrite = priced 6 (λ a. transfer_price (arg a 4)) (λ c a. write_device (arg a 0) (arg32 a 1) (Bar (arg8 a 2)) (arg a 3) (arg a 4) (arg a 5))
+row PciRead = priced 5 (λ a. transfer_price (arg a 3)) (λ c a. read_device (arg a 0) (arg32 a 1) Config (arg32 a 2) (arg a 3) (arg a 4))
+row PciWrite = priced 5 (λ a. transfer_price (arg a 3)) (λ c a. write_device (arg a 0) (arg32 a 1) Config (arg32 a 2) (arg a 3) (arg a 4))
+row GetLocation = fixed 5 4 (λ c a. get_location (arg a 0) (arg a 1) (arg a 2) (arg a 3) (arg a 4))
+row Attributes = fixed 4 4 (λ c a. attributes (arg a 0) (arg32 a 1) (arg a 2) (arg a 3))
 
 -- ---- how a service goes
 
@@ -123,7 +125,7 @@ priced_with row c w (Err stop) = stop_answered stop w
 abbrev pub priced_after : Row → Caller → State → Served × State
 priced_after row c w = priced_with row c w (slots row.slots c.sp w)
 
--- what a call of a boot service answers, and the state that it leaves
+-- what a call of a service answers, and the state that it leaves
 abbrev pub served : Service → Caller → State → Served × State
 served s c w = if (row s).by_argument then priced_after (row s) c w else priced_first (row s) c w
 

@@ -1,5 +1,5 @@
 -- What each change leaves of the state, and what the service answers with it.
-use Rattle.std.specs.Prelude.{ℕ, zero, suc, ◌*◌, Bool, true, false, List, length, replicate, Option, Some, None, Result, Ok, Err}
+use Rattle.std.specs.Prelude.{ℕ, zero, suc, ◌*◌, Bool, true, false, List, [], length, take, drop, replicate, Option, Some, None, unwrap_or, Result, Ok, Err}
 use Rattle.byteorder.specs.Endian.{little_bytes}
 use Rattle.handle_db.specs.Database.{handles_with}
 use Rattle.handle_db.specs.declared.refusal.DbRefusal.{DbRefusal}
@@ -8,7 +8,12 @@ use Rattle.fw_types.specs.declared.status.Status.{Status as StatusValue}
 use Rattle.fw_types.specs.declared.status.TheConstants.Status.{INVALID_PARAMETER, OUT_OF_RESOURCES, SUCCESS}
 use Rattle.guest_memory.specs.GuestMemory.{bytes_of, put_bytes}
 use Rattle.guest_memory.specs.declared.segment.SegKind.TheVariants.{Pool}
-use Rattle.world_model.specs.World.{State, on_soft, with_memory, with_tpl}
+use Rattle.pci_model.specs.BoardLines.{Location}
+use Rattle.pci_model.specs.Spaces.{space_of, space_written}
+use Rattle.pci_model.specs.declared.space.Space.{Space}
+use Rattle.pci_model.specs.declared.space.Space.TheVariants.{Config}
+use Rattle.world_model.specs.World.{State, on_hard, on_soft, with_memory, with_tpl}
+use Rattle.world_model.specs.Boards.{with_board}
 use Rattle.world_model.specs.Blocks.{allot_answer, block_added, block_freed, free_answer}
 use Rattle.world_model.specs.Interfaces.{install_answer, interface, interface_added}
 use Rattle.world_model.specs.Records.{record_entered, records_left}
@@ -23,7 +28,9 @@ use Rattle.service_model.specs.declared.call.Served.TheVariants as served
 use Rattle.service_model.specs.declared.plan.Stop.{Stop}
 use Rattle.service_model.specs.declared.plan.Stop.TheVariants.{Status, Trap}
 use Rattle.service_model.specs.declared.plan.Change.{Change}
-use Rattle.service_model.specs.declared.plan.Change.TheVariants.{Allot, Block, Close, Connect, Copy, Disconnect, Fill, Free, Handles, Install, InstallMany, Open, Remove, SetTpl, Store, Uninstall, UninstallMany, Value}
+use Rattle.service_model.specs.declared.plan.Change.TheVariants.{Allot, Block, Close, Connect, Copy, Disconnect, Fill, Free, Handles, Install, InstallMany, Open, ReadDevice, Remove, SetCommand, SetTpl, Store, StoreLocation, Uninstall, UninstallMany, Value, WriteDevice}
+use Rattle.service_model.specs.declared.plan.Transfer.{Transfer}
+use Rattle.service_model.specs.declared.numbers.TheConstants.{COMMAND}
 
 -- the service answers a status, with the state that it leaves
 abbrev pub status_answered : StatusValue → State → Served × State
@@ -119,6 +126,21 @@ open_served true handle name agent controller attr out address w = status_answer
 open_served false handle name agent controller attr out address w =
     status_answered SUCCESS (stored_if out address (on_soft (record_entered handle name agent controller attr) w))
 
+-- ---- devices
+
+-- a device with these bytes in its configuration space or in one of its BARs, from an offset on
+abbrev pub device_written : (function : ℕ) → Space → (at : ℕ) → List ℕ → State → State
+device_written function space at bytes w = on_hard (with_board (space_written function space at bytes w.hard.board)) w
+
+-- the bytes of a device that are read
+abbrev pub device_bytes : Transfer → State → List ℕ
+device_bytes t w = take t.n (drop t.at (unwrap_or (space_of w.hard.board t.function t.space) []))
+
+-- the numbers of a location, in the order of the arguments
+abbrev pub location_stored : (segment bus device function : ℕ) → Location → State → State
+location_stored segment bus device function at w =
+    number_stored function at.2 (number_stored device at.1 (number_stored bus at.0 (number_stored segment 0 w)))
+
 -- ---- all changes
 
 abbrev pub applied : Change → State → Served × State
@@ -144,3 +166,7 @@ applied (Disconnect controller driver child) w = (served.Again (reentry.Disconne
 applied (Remove removal) w = (served.Again (reentry.Remove removal), w)
 applied (Uninstall i) w = (served.Again (reentry.Uninstall i), w)
 applied (UninstallMany handle list count) w = (served.Again (reentry.UninstallMany (interfaces_named handle list count w)), w)
+applied (ReadDevice t) w = status_answered SUCCESS (bytes_stored t.buffer (device_bytes t w) w)
+applied (WriteDevice t) w = status_answered SUCCESS (device_written t.function t.space t.at (bytes_of w.soft.memory t.buffer t.n) w)
+applied (StoreLocation segment bus device function at) w = status_answered SUCCESS (location_stored segment bus device function at w)
+applied (SetCommand function command) w = status_answered SUCCESS (device_written function Config COMMAND (little_bytes 2 command) w)

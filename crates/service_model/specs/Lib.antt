@@ -3,6 +3,7 @@ pub mod Rows
 pub mod Protocols
 pub mod Many
 pub mod Connecting
+pub mod PciIo
 pub mod Contents
 pub mod Changes
 pub mod BootServices

@@ -1,10 +1,10 @@
--- What a boot service leaves as it was.
+-- What a service leaves as it was.
 use Rattle.std.specs.Prelude.{◌≡◌, ◌≤◌, ℕ, Bool, true, false, nat_lt, Option, Result, Ok, Err, if◌then◌else◌}
 use Rattle.fw_types.specs.Status.{is_error}
 use Rattle.fw_types.specs.declared.event.Cause.{Cause}
 use Rattle.fw_types.specs.declared.event.Cause.TheVariants.{Budget, Memory}
 use Rattle.service_thunks.specs.declared.service.Service.{Service}
-use Rattle.service_thunks.specs.declared.service.Service.TheVariants.{ConnectController, DisconnectController, OpenProtocol, RaiseTpl, RestoreTpl, Uninstall, UninstallMultiple}
+use Rattle.service_thunks.specs.declared.service.Service.TheVariants.{Attributes, ConnectController, DisconnectController, MemWrite, OpenProtocol, PciWrite, RaiseTpl, RestoreTpl, Uninstall, UninstallMultiple}
 use Rattle.world_model.specs.World.{State, on_hard}
 use Rattle.world_model.specs.Units.{units_spent}
 use Rattle.world_model.specs.Fixed.{fixed_segments}
@@ -50,9 +50,27 @@ EventsStay = (s : Service) (c : Caller) (w : State) → (left_by s c w).hard.eve
 abbrev pub UnitsNeverRise : Type 0
 UnitsNeverRise = (s : Service) (c : Caller) (w : State) → (left_by s c w).hard.units ≤ w.hard.units
 
+-- the board, except for the functions that write a device
+abbrev pub writes_device : Service → Bool
+writes_device MemWrite = true
+writes_device PciWrite = true
+writes_device Attributes = true
+writes_device _ = false
+
+abbrev pub BoardStays : Type 0
+BoardStays = (s : Service) (c : Caller) (w : State) → writes_device s ≡ false → (left_by s c w).hard.board ≡ w.hard.board
+
+-- the lines of the board and the option ROMs, and the bus lists
+abbrev pub LinesStay : Type 0
+LinesStay =
+    (s : Service) (c : Caller) (w : State)
+    → ((left_by s c w).hard.board.lines ≡ w.hard.board.lines) × (((left_by s c w).hard.roms ≡ w.hard.roms) × ((left_by s c w).soft.bus_lists ≡ w.soft.bus_lists))
+
 -- a service that traps may have spent its price, and changes nothing else
 abbrev pub TrapsChangeNothing : Type 0
-TrapsChangeNothing = (s : Service) (c : Caller) (w : State) (cause : Cause) → (served s c w).0 ≡ Trap cause → (left_by s c w).soft ≡ w.soft
+TrapsChangeNothing =
+    (s : Service) (c : Caller) (w : State) (cause : Cause) → (served s c w).0 ≡ Trap cause
+    → ((left_by s c w).soft ≡ w.soft) × ((left_by s c w).hard.board ≡ w.hard.board)
 
 -- ---- what a service costs, and why it traps
 

@@ -1,4 +1,4 @@
-//! Laws of the boot services, over the definitions alone. Each is the contract of a function with no
+//! Laws of the services, over the definitions alone. Each is the contract of a function with no
 //! work of its own.
 
 ghost use Rattle.service_model.specs.Allowed.{
@@ -19,10 +19,12 @@ ghost use Rattle.service_model.specs.SecondLook.{
   SpendsNothing,
 };
 ghost use Rattle.service_model.specs.Untouched.{
+  BoardStays,
   ErrorsChangeNothing,
   EventsStay,
   FixedStay,
   KeptStays,
+  LinesStay,
   OthersEnd,
   ShortOfUnitsTraps,
   StacksStay,
@@ -76,7 +78,7 @@ pub fn reentries_change_nothing()
     ensures state { ReentriesChangeNothing }
 {}
 
-/// What a boot service keeps: each segment that code may not write, with its bytes; all stacks; and what
+/// What a service keeps: each segment that code may not write, with its bytes; all stacks; and what
 /// holds of every soft part.
 pub fn services_keep()
     ensures fixed_segments { FixedStay }
@@ -91,18 +93,21 @@ pub fn services_keep()
     rows_are_allowed();
 }
 
-/// What a boot service leaves as it was: the task priority level, except for RaiseTPL and RestoreTPL; and
-/// the events. Units never rise, and a service that traps leaves the whole soft part. One that answers an
-/// error, whose bit 63 is set, has spent its price, and has stored one number at most.
+/// What a service leaves as it was: the task priority level, except for RaiseTPL and RestoreTPL; the
+/// events; and the board with its devices, except for Mem.Write, Pci.Write and Attributes, which leave its
+/// lines. Units never rise, and a service that traps leaves the whole soft part and all devices. One that
+/// answers an error, whose bit 63 is set, has spent its price, and has stored one number at most.
 pub fn services_leave()
     ensures tpl { TplStays }
     ensures events { EventsStay }
+    ensures board { BoardStays }
+    ensures lines { LinesStay }
     ensures units { UnitsNeverRise }
     ensures traps { TrapsChangeNothing }
     ensures errors { ErrorsChangeNothing }
 {}
 
-/// Why a boot service traps. If its price names an argument that can't be read, for `Memory`; else, exactly
+/// Why a service traps. If its price names an argument that can't be read, for `Memory`; else, exactly
 /// if the price is more than the units that are left, for `Budget`; else for `Memory`.
 pub fn services_trap()
     ensures cause { TrapsForItsCause }
@@ -110,7 +115,7 @@ pub fn services_trap()
     ensures unreadable { UnreadablePriceTraps }
 {}
 
-/// No boot service enters the driver model again, except for ConnectController, DisconnectController,
+/// No service enters the driver model again, except for ConnectController, DisconnectController,
 /// OpenProtocol, UninstallProtocolInterface and UninstallMultipleProtocolInterfaces.
 pub fn services_end()
     ensures { OthersEnd }

@@ -1,5 +1,6 @@
 use crate::call::{HandleInterface, Removal};
 use fw_types::{Attr, Cause, Guid, Handle, Status};
+use pci_model::Space;
 
 /// Why a row stops. Then it changes nothing.
 #[derive(Clone, Copy, Debug, PartialEq, Eq)]
@@ -26,6 +27,21 @@ pub enum Contents {
     /// The protocols of a handle in order of installation: for each 8 bytes that point to its GUID, and
     /// after these the GUIDs, 16 bytes each.
     Protocols(Handle),
+}
+
+/// Bytes that go between a device and memory.
+#[derive(Clone, Copy, Debug, PartialEq, Eq)]
+pub struct Transfer {
+    /// The number of the device's function.
+    pub function: u32,
+    /// Whether they are in its configuration space or in one of its BARs.
+    pub space: Space,
+    /// The offset of the first in it.
+    pub at: u64,
+    /// How many bytes.
+    pub n: u64,
+    /// The address of the first in memory.
+    pub buffer: u64,
 }
 
 /// What a row ends with. Except for the price, nothing else changes the world.
@@ -191,5 +207,29 @@ pub enum Change {
         list: u64,
         /// How many there are, at most `MOST_PAIRS`.
         count: u64,
+    },
+    /// Bytes of a device are read into memory.
+    ReadDevice(Transfer),
+    /// Bytes of a device are written from memory.
+    WriteDevice(Transfer),
+    /// The location of a function is stored: a segment group, which is 0, and three numbers.
+    StoreLocation {
+        /// Where the segment group is stored, in 8 bytes.
+        segment: u64,
+        /// Where the bus is stored.
+        bus: u64,
+        /// Where the device number is stored.
+        device: u64,
+        /// Where the function number is stored.
+        function: u64,
+        /// The bus, the device number and the function number.
+        location: (u8, u8, u8),
+    },
+    /// The command register of a device is written.
+    SetCommand {
+        /// The number of the device's function.
+        function: u32,
+        /// Its new value, in the lowest 16 bits.
+        command: u64,
     },
 }

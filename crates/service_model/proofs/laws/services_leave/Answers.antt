@@ -1,4 +1,4 @@
-use Rattle.service_model.proofs.UntouchedParts.{events-stay, tpl-stays, units-never-rise}
+use Rattle.service_model.proofs.UntouchedParts.{board-stays, events-stay, lines-stay, tpl-stays, units-never-rise}
 use Rattle.service_model.proofs.ChangeAnswers.{errors-change-nothing, traps-change-nothing}
 use Rattle.service_model.proofs.laws.services_leave.Goals as goal
 
@@ -7,6 +7,12 @@ returns-clause-tpl c = tpl-stays
 
 pub returns-clause-events : goal.returns-clause-events
 returns-clause-events c = events-stay
+
+pub returns-clause-board : goal.returns-clause-board
+returns-clause-board c = board-stays
+
+pub returns-clause-lines : goal.returns-clause-lines
+returns-clause-lines c = lines-stay
 
 pub returns-clause-units : goal.returns-clause-units
 returns-clause-units c = units-never-rise
