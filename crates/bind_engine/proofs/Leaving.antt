@@ -6,7 +6,7 @@ use Rattle.fw_types.specs.declared.memory.OutOfMemory.{OutOfMemory}
 use Rattle.fw_types.specs.declared.status.Status.{Status}
 use Rattle.world_model.specs.World.{State, WorldView}
 use Rattle.world_model.specs.Marks.{stacks}
-use Rattle.engine.specs.declared.image_load.ImageLoad.{ImageLoad}
+use Rattle.bind_parts.specs.declared.loading.ImageLoad.{ImageLoad}
 use Rattle.driver_model.specs.ImageLife.{Load}
 use Rattle.driver_model.specs.Spending.{Spends}
 use Rattle.driver_model.specs.Staying.{NoPathStays, Stays}

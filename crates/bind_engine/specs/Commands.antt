@@ -3,7 +3,7 @@ use Rattle.std.specs.Prelude.{ℕ, ◌-◌, ◌++◌, Bool, true, false, not, na
 use Rattle.fw_types.specs.declared.status.Status.{Status}
 use Rattle.fw_types.specs.declared.status.TheConstants.Status.{INVALID_PARAMETER, LOAD_ERROR, NOT_FOUND, SUCCESS}
 use Rattle.fw_types.specs.declared.command.Command.{Command}
-use Rattle.fw_types.specs.declared.command.Command.TheVariants.{Load as LoadCommand, Connect, Disconnect, Platform, Budget, Dump}
+use Rattle.fw_types.specs.declared.command.Command.TheVariants.{Load as LoadCommand, Connect, Disconnect, Unload, Platform, Budget, Dump}
 use Rattle.fw_types.specs.declared.command.PathArg.{PathArg}
 use Rattle.fw_types.specs.declared.dump.DumpLine.{DumpLine}
 use Rattle.fw_types.specs.declared.image.RomEnd.{RomEnd}
@@ -17,6 +17,7 @@ use Rattle.driver_model.specs.Moves.{plain}
 use Rattle.driver_model.specs.Connect.{connect}
 use Rattle.driver_model.specs.Disconnect.{disconnect}
 use Rattle.driver_model.specs.ImageLife.{Load}
+use Rattle.driver_model.specs.Unloading.{unloaded}
 use Rattle.driver_model.specs.declared.request.Disconnection.{Disconnection}
 use Rattle.driver_model.specs.declared.settings.PlatformList.{PlatformList}
 use Rattle.driver_model.specs.declared.settings.Settings.{Settings}
@@ -24,7 +25,7 @@ use Rattle.bind_engine.specs.declared.ending.Ending.{Ending}
 use Rattle.bind_engine.specs.declared.rom_load.RomTally.{RomTally}
 use Rattle.bind_engine.specs.CommandPaths.{connection, path_bytes, with_path}
 use Rattle.bind_engine.specs.Dump.{dump_of}
-use Rattle.bind_engine.specs.Levels.{all_levels, loaded, outside}
+use Rattle.bind_engine.specs.Levels.{all_levels, first_level, loaded, outside}
 use Rattle.bind_engine.specs.Machine.{MachineView}
 use Rattle.bind_engine.specs.RomLoad.{is_rom, no_images, rom_status, with_images}
 
@@ -33,6 +34,7 @@ abbrev pub reads_file : Command → Bool
 reads_file (LoadCommand name) = true
 reads_file (Connect controller recursive path context) = false
 reads_file (Disconnect controller driver child) = false
+reads_file (Unload image) = false
 reads_file (Platform controller drivers) = false
 reads_file (Budget command call) = false
 reads_file Dump = false
@@ -71,6 +73,11 @@ command_connected settings controller recursive path context w =
 
 abbrev pub command_disconnected : Settings → Disconnection → State → Status × State
 command_disconnected settings d w = disconnect plain (all_levels settings) outside d w
+
+-- ---- unload (UEFI 2.8, 7.4: UnloadImage)
+
+abbrev pub command_unloaded : Settings → (image : ℕ) → State → Status × State
+command_unloaded settings image w = unloaded plain (first_level settings) outside image w
 
 -- ---- what spends nothing and makes no event
 
@@ -122,6 +129,7 @@ exec (Connect controller recursive path context) files machine =
     reply_to machine (status_ending (command_connected machine.settings controller recursive path context (begun machine)))
 exec (Disconnect controller driver child) files machine =
     reply_to machine (status_ending (command_disconnected machine.settings (record { controller = controller; driver = driver; child = child }) (begun machine)))
+exec (Unload image) files machine = reply_to machine (status_ending (command_unloaded machine.settings image (begun machine)))
 exec (Platform controller drivers) files machine = platform_set controller drivers machine
 exec (Budget command call) files machine = budgets_set command call machine
 exec Dump files machine = database_dumped machine

@@ -7,6 +7,7 @@
 //! - `load`, `rom_load`: `load`, for one image or for the images of an option ROM.
 //! - `connect`, `command_path`: `connect` and `disconnect`, and the device path that is in memory
 //!   while a `connect` runs.
+//! - `unload`: `unload`.
 //! - `settings`: `platform`. `dump`: `dump`.
 //!
 //! The definitions are in `specs/`: what each command gives is `exec` of `specs/Commands.antt`. The
@@ -23,5 +24,6 @@ mod load;
 mod machine;
 mod rom_load;
 mod settings;
+mod unload;
 
 pub use machine::{ExecFault, Machine};

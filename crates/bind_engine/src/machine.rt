@@ -6,7 +6,7 @@ ghost use Rattle.fw_shelf.specs.Faults.{Rose};
 ghost use Rattle.fw_shelf.specs.Shelf.{Files, file_of};
 ghost use Rattle.bind_engine.specs.declared.machine.ExecFault.TheVariants.{OutOfMemory as NoMemory};
 ghost use Rattle.bind_engine.specs.Boot.{boot_notes, boot_reads, booted};
-ghost use Rattle.bind_engine.specs.Commands.{begun, budgets_set, command_connected, command_disconnected, database_dumped, exec, load_ending, platform_set, reads_file, reply_to, status_ending, without_units};
+ghost use Rattle.bind_engine.specs.Commands.{begun, budgets_set, command_connected, command_disconnected, command_unloaded, database_dumped, exec, load_ending, platform_set, reads_file, reply_to, status_ending, without_units};
 ghost use Rattle.bind_engine.specs.Machine.{IsIdle, are_budgets_legal};
 
 use crate::boot::{BoardRoms, read_roms};
@@ -15,6 +15,7 @@ use crate::dump::dump;
 use crate::ending::Ending;
 use crate::load::load;
 use crate::settings::with_list;
+use crate::unload::unload;
 use driver_model::{Disconnection, Settings};
 use fw_shelf::Shelf;
 use fw_types::{
@@ -241,6 +242,22 @@ impl Machine {
         Ok(reply(world, self.settings, self.command_budget, ending))
     }
 
+    /// `unload`: unloads the image of a handle (UEFI 2.8, 7.4: UnloadImage).
+    fn unload(self, image: u64) -> Result<(Machine, Reply), OutOfMemory>
+        ensures done { IfOk result (λ after.
+            reply_to self (status_ending (command_unloaded self.settings image (begun self)))
+            ≡ (after.1, after.0)) }
+        ensures units { IfOk result (λ after. after.1.units ≤ self.command_budget) }
+        ensures events { IfOk result
+            (λ after. CALL_PRICE * length after.1.events ≤ after.1.units) }
+    {
+        let mut world = self.world;
+        world.begin_command(self.command_budget);
+        let status = unload(&mut world, &self.settings, image)?;
+        let ending = Ending::with_status(world.alloc(), status);
+        Ok(reply(world, self.settings, self.command_budget, ending))
+    }
+
     /// `platform`: replaces the list of drivers that the platform prefers for a controller.
     fn set_platform(self, controller: u64, drivers: &[u64]) -> Result<(Machine, Reply), OutOfMemory>
         ensures { IfOk result (λ after.
@@ -332,6 +349,7 @@ impl Machine {
                 driver,
                 child,
             } => Ok(self.disconnect(*controller, *driver, *child)?),
+            Command::Unload { image } => Ok(self.unload(*image)?),
             Command::Platform {
                 controller,
                 drivers,

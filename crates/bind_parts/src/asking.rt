@@ -1,11 +1,12 @@
-//! Which drivers ConnectController asks, and how it calls them (UEFI 2.8, 7.3 and 11.1).
+//! Which drivers ConnectController asks, how it calls them, what it answers, and how it connects a
+//! child (UEFI 2.8, 7.3 and 11.1).
 ghost use Rattle.std.specs.Prelude.{◌≡◌, IfOk};
-ghost use Rattle.driver_model.specs.Connect.{address_in, driver_call, is_marked, unmarked};
+ghost use Rattle.driver_model.specs.Connect.{address_in, child_connection, driver_call, is_marked, status_of, unmarked};
 ghost use Rattle.driver_model.specs.DriverOrder.{order, platform_list};
 
 use bind_plan::order;
 use driver_model::{BindingBlock, Call, CallKind, Connection, Settings};
-use fw_types::{Handle, OutOfMemory};
+use fw_types::{Handle, OutOfMemory, Status};
 use fw_world::World;
 
 /// The platform driver override's list for a controller, or an empty one.
@@ -83,5 +84,29 @@ pub fn driver_call(kind: CallKind, block: &BindingBlock, c: &Connection) -> Call
         address: address_in(kind, block),
         binding: block.at,
         slots,
+    }
+}
+
+/// How a child is connected: with no path, and its children too.
+pub fn child_connection(controller: u64) -> Connection
+    ensures { result ≡ child_connection controller }
+{
+    Connection {
+        controller,
+        path: 0,
+        at_end: false,
+        recursive: true,
+    }
+}
+
+/// What ConnectController answers in the end: SUCCESS if a Start succeeded or the path is an End
+/// node, and otherwise NOT_FOUND.
+pub fn connect_status(c: &Connection, any: bool) -> Status
+    ensures { result ≡ status_of c.now any }
+{
+    if any || c.at_end {
+        Status::SUCCESS
+    } else {
+        Status::NOT_FOUND
     }
 }

@@ -1,11 +1,14 @@
 //! The parts of the driver model that call no driver: what ConnectController, DisconnectController,
-//! driver calls and runs of EBC code look at and do between the drivers that they call (UEFI 2.8,
-//! 7.3, 11.1 and chapter 22). `engine` makes these calls out of them.
+//! driver calls, runs of EBC code, and the load and unload of images look at and do between the
+//! drivers that they call (UEFI 2.8, 7.3, 7.4, 9.1, 11.1 and chapter 22). `engine` makes these calls
+//! out of them.
 //!
-//! - `asking`: which drivers ConnectController asks, and how.
+//! - `asking`: which drivers ConnectController asks, how, and what it answers.
 //! - `driver_calls`: what a driver call enters, may spend and comes to; `settling`: how it ends.
 //! - `native_calls`: what a native call of EBC code goes to, with what arguments, and how it
 //!   returns.
+//! - `loading`, `unloading`: what the load and the unload of an image do around the call of its
+//!   entry point and of its handler.
 //! - `thunk_request`: the thunks that code asks for; `run_end`: how code ends.
 //! - `removal`, `uninstalling`: what OpenProtocol and the uninstalls do around the disconnect of a
 //!   driver.
@@ -18,6 +21,7 @@
 mod asking;
 mod driver_calls;
 mod handles;
+mod loading;
 mod native_calls;
 mod removal;
 mod run_end;
@@ -25,10 +29,12 @@ mod settling;
 mod stopping;
 mod thunk_request;
 mod uninstalling;
+mod unloading;
 
-pub use asking::{driver_call, drivers_to_ask};
+pub use asking::{child_connection, connect_status, driver_call, drivers_to_ask};
 pub use driver_calls::{allowance, code_of, event_kind, is_success, outcome_of};
 pub use handles::{children_of, live_handle, numbers_of};
+pub use loading::{ImageLoad, entry_call, failed, refused, settle_load};
 pub use native_calls::{callee, caller, passed_slots, serve_caller, take_answer, take_end};
 pub use removal::{is_passed_on, look_again};
 pub use run_end::{exit_of, trapped};
@@ -41,3 +47,4 @@ pub use thunk_request::meet_request;
 pub use uninstalling::{
     handle_to_clear, is_first_there, is_kept_from_drivers, manager_on, remove_interface, settle_all,
 };
+pub use unloading::{handler_of, settle_unload, unload_call};

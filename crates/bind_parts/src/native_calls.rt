@@ -8,8 +8,7 @@ ghost use Rattle.world_model.specs.Marks.{stacks};
 ghost use Rattle.service_model.specs.BootServices.{is_boot_service, served};
 ghost use Rattle.driver_model.specs.Moves.{plain};
 ghost use Rattle.driver_model.specs.Levels.{level_with};
-ghost use Rattle.driver_model.specs.NativeCalls.{available, callee as callee_value, caller as caller_value, is_bus_function, passed_slots, returned, thunk_or_nothing, thunk_returned};
-ghost use Rattle.bind_parts.specs.Calls.{IsServedByFirmware};
+ghost use Rattle.driver_model.specs.NativeCalls.{callee as callee_value, caller as caller_value, is_bus_function, passed_slots, returned, thunk_or_nothing, thunk_returned};
 ghost use Rattle.bind_parts.specs.Events.{NoFewerEvents};
 
 use crate::run_end::trapped;
@@ -20,6 +19,7 @@ use fw_world::World;
 use guest_memory::GuestMem;
 use guest_memory::address_map::{BUS_GET_DRIVER, BUS_START, BUS_STOP, BUS_SUPPORTED};
 use leaf_services::serve;
+use pci_io::pci_serve;
 use service_model::laws::{services_keep, services_leave};
 use service_model::{Caller, Served};
 use service_thunks::{Service, service_at};
@@ -31,26 +31,9 @@ fn is_bus_function(at: u64) -> bool
     matches!(at, BUS_SUPPORTED | BUS_START | BUS_STOP | BUS_GET_DRIVER)
 }
 
-/// The service itself, or `Unbuilt` for a function of PCI I/O.
-fn available(service: Service) -> Service
-    ensures value { result ≡ available service }
-    ensures boot { is_boot_service result ≡ true }
-{
-    match service {
-        Service::MemRead
-        | Service::MemWrite
-        | Service::PciRead
-        | Service::PciWrite
-        | Service::GetLocation
-        | Service::Attributes => Service::Unbuilt,
-        other => other,
-    }
-}
-
 /// The code behind a thunk, or nothing.
 fn thunk_or_nothing(entry: Option<u64>) -> Callee
-    ensures value { result ≡ thunk_or_nothing entry }
-    ensures boot { IsServedByFirmware result }
+    ensures { result ≡ thunk_or_nothing entry }
 {
     match entry {
         Some(entry) => Callee::AThunk(entry),
@@ -61,11 +44,10 @@ fn thunk_or_nothing(entry: Option<u64>) -> Callee
 /// What is at the target of a native call (UEFI 2.8, chapter 22, 'CALL').
 #[tactic(auto, unfolding(driver_model::specs::NativeCalls::callee))]
 pub fn callee(world: &World, target: u64) -> Callee
-    ensures value { result ≡ callee_value target world.now.now.soft }
-    ensures boot { IsServedByFirmware result }
+    ensures { result ≡ callee_value target world.now.now.soft }
 {
     match service_at(target) {
-        Some(service) => Callee::AService(available(service)),
+        Some(service) => Callee::AService(service),
         None if is_bus_function(target) => Callee::AService(Service::Unbuilt),
         None => thunk_or_nothing(world.thunk_at(target)),
     }
@@ -83,7 +65,22 @@ pub fn caller(image: Handle, room: u8, cpu: &Cpu) -> Caller
     }
 }
 
-/// Serves a call of a boot service, up to where it goes on at the caller's level.
+/// Whether a service is one of the boot services, and no function of PCI I/O.
+fn is_boot_service(service: Service) -> bool
+    ensures { result ≡ is_boot_service service }
+{
+    !matches!(
+        service,
+        Service::MemRead
+            | Service::MemWrite
+            | Service::PciRead
+            | Service::PciWrite
+            | Service::GetLocation
+            | Service::Attributes
+    )
+}
+
+/// Serves a call of a boot service or of PCI I/O, up to where it goes on at the caller's level.
 ///
 /// # Errors
 ///
@@ -93,7 +90,6 @@ pub fn serve_caller(
     service: Service,
     caller: &Caller,
 ) -> Result<Served, OutOfMemory>
-    requires { is_boot_service service ≡ true }
     ensures now { IfOk result (λ answer.
         served service caller.now world.old.now ≡ (answer, world.new.now)) }
     ensures marks { OnOk result (world.new.marks ≡ world.old.marks) }
@@ -104,7 +100,11 @@ pub fn serve_caller(
     services_keep();
     services_leave();
     world.is_kept();
-    serve(world, service, caller)
+    if is_boot_service(service) {
+        serve(world, service, caller)
+    } else {
+        pci_serve(world, service, caller)
+    }
 }
 
 /// Puts the value of a service into R7. The answer is how the run ends, if the service traps.

@@ -7,7 +7,7 @@ use Rattle.world_model.specs.Images.{image_of}
 use Rattle.world_model.specs.Kept.{IsKept}
 use Rattle.world_model.specs.declared.image.LoadedImage.{LoadedImage}
 use Rattle.world_model.proofs.ThunkLaws.{entering}
-use Rattle.driver_model.specs.ImageSweep.{image_swept}
+use Rattle.world_model.specs.ImageSweep.{image_swept}
 use Rattle.driver_model.specs.Levels.{level_with}
 use Rattle.driver_model.specs.Staying.{CanRun}
 use Rattle.driver_model.specs.UnloadLaws.{IsGone, OthersStay, ThunksEnterLoadedImages, UnloadedImagesAreGone, UnloadsLeaveOthers, left_by_handler, left_by_unload, status_of_unload}

@@ -16,7 +16,7 @@ use Rattle.driver_model.specs.Moves.{Operations, drops_all, plain}
 use Rattle.driver_model.specs.Level.{Level}
 use Rattle.driver_model.specs.DriverCall.{commits}
 use Rattle.driver_model.specs.ImageLife.{failure_of}
-use Rattle.driver_model.specs.ImageSweep.{image_swept, is_in_use}
+use Rattle.world_model.specs.ImageSweep.{image_swept, is_in_use}
 use Rattle.driver_model.specs.Levels.{below, level_over, level_with}
 use Rattle.driver_model.specs.UnloadLaws.{UnloadsThatFailLeave, UnloadsThatSucceedSweep, left_by_handler}
 use Rattle.driver_model.specs.Unloading.{gone_or_in_use, handled, handler_of, unless_failed, unless_none, unload_call, unloaded}

@@ -14,18 +14,19 @@ use Rattle.guest_memory.proofs.SegmentLemmas.{lie_from-unmapped}
 use Rattle.handle_db.specs.declared.handle_entry.HandleEntry.{HandleEntry}
 use Rattle.handle_db.specs.declared.handle_entry.Interface.{Interface}
 use Rattle.handle_db.specs.Database.{Database, has_any, interface_of, interfaces_in, is_guid, is_handle, is_live}
+use Rattle.handle_db.specs.OwnedInterfaces.{goes_with, is_owned_by, without_interfaces_of}
 use Rattle.open_records.specs.declared.open_record.KeyedRecord.{KeyedRecord}
 use Rattle.world_model.specs.World.{Soft}
 use Rattle.world_model.specs.Images.{image_of, without_loaded}
+use Rattle.world_model.specs.ImageSweep.{database_without, image_swept, is_agent_of, is_loaded_image_of, left_of, record_stays, swept_of}
 use Rattle.world_model.specs.Kept.{IsKept, are_parties_live}
 use Rattle.world_model.specs.declared.image.LoadedImage.{LoadedImage}
 use Rattle.world_model.specs.declared.thunk.Thunk.{Thunk}
+use Rattle.world_model.proofs.KeepingSweeps.{interface_left, own}
 use Rattle.world_model.proofs.Segments.{list_any-unmapped, list_any-unmapped_less, none-unmapped}
 use Rattle.world_model.proofs.ThunkLaws.{dropping as thunks_dropped}
 use Rattle.world_model.proofs.ThunkTargets.{is_some-find}
-use Rattle.driver_model.specs.ImageSweep.{database_without, goes_with, image_swept, is_agent_of, is_loaded_image_of, is_owned_by, record_stays, swept_of, without_interfaces_of}
-use Rattle.driver_model.specs.UnloadLaws.{IsGone, OthersStay, SweepsLeaveOthers, SweptImagesAreGone, is_segment_of, is_thunk_of, left_of}
-use Rattle.driver_model.proofs.ImageSweeps.{interface_left}
+use Rattle.driver_model.specs.UnloadLaws.{IsGone, OthersStay, SweepsLeaveOthers, SweptImagesAreGone, is_segment_of, is_thunk_of}
 use Rattle.driver_model.proofs.UnmappedBytes.{unreadable}
 
 -- ---- lists
@@ -54,14 +55,14 @@ none_left_in P Q (x ∷ xs) none = by_head (P x) (Q x) refl none (λ rest. none_
 
 -- no handle has an interface of the image's
 none_owned : (image : ℕ) (entries : List HandleEntry)
-    → list_any (λ (entry : HandleEntry). list_any (λ (one : Interface). nat_eq one.owner image) entry.interfaces) (map (without_interfaces_of image) entries) ≡ false
+    → list_any (λ (entry : HandleEntry). list_any (λ (one : Interface). nat_eq one.owner image) entry.interfaces) (map (without_interfaces_of image own) entries) ≡ false
 none_owned image [] = refl
 none_owned image (entry ∷ entries) =
     or_from _ _
-    (none_in_filter (λ (one : Interface). not (goes_with image entry.handle one)) (λ (one : Interface). nat_eq one.owner image) entry.interfaces (λ one stays. owner_differs one (nat_eq one.owner image) refl stays))
+    (none_in_filter (λ (one : Interface). not (goes_with image own entry.handle one)) (λ (one : Interface). nat_eq one.owner image) entry.interfaces (λ one stays. owner_differs one (nat_eq one.owner image) refl stays))
     (none_owned image entries)
   where
-    owner_differs : (one : Interface) (own : Bool) → nat_eq one.owner image ≡ own → not (own || is_loaded_image_of image entry.handle one.guid) ≡ true → nat_eq one.owner image ≡ false
+    owner_differs : (one : Interface) (owned : Bool) → nat_eq one.owner image ≡ owned → not (owned || is_loaded_image_of image entry.handle one.guid) ≡ true → nat_eq one.owner image ≡ false
     owner_differs one true is stays = absurd cc
     owner_differs one false is stays = is
 
@@ -79,7 +80,7 @@ gone_one image soft kept found =
     (thunks_dropped soft image.handle kept (ap is_some found)) in
     record {
       images = none_in_filter (λ (one : LoadedImage). not (nat_eq one.handle image.handle)) (λ (one : LoadedImage). nat_eq one.handle image.handle) soft.images (λ one other. not-true _ other);
-      interfaces = none_left_in has_any (λ (entry : HandleEntry). list_any (λ (one : Interface). nat_eq one.owner image.handle) entry.interfaces) (map (without_interfaces_of image.handle) soft.database.handles) (none_owned image.handle soft.database.handles);
+      interfaces = none_left_in has_any (λ (entry : HandleEntry). list_any (λ (one : Interface). nat_eq one.owner image.handle) entry.interfaces) (map (without_interfaces_of image.handle own) soft.database.handles) (none_owned image.handle soft.database.handles);
       loaded_image = interface_left image.handle image.handle (known_guid LoadedImageProtocol) soft.database kept.database.sound ∙ own_protocol image.handle (interface_of image.handle (known_guid LoadedImageProtocol) soft.database);
       records =
           none_in_filter (record_stays image.handle soft.database (database_without image.handle soft.database)) (λ (one : KeyedRecord). is_agent_of image.handle soft.database one.rec.agent) soft.records.entries

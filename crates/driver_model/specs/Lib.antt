@@ -1,4 +1,3 @@
-pub mod ImageSweep
 pub mod Moves
 pub mod Level
 pub mod Bindings

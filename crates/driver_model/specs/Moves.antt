@@ -20,7 +20,7 @@ use Rattle.service_model.specs.Changes.{number_stored}
 use Rattle.service_model.specs.SecondLook.{looked_again}
 use Rattle.service_model.specs.declared.call.Caller.{Caller}
 use Rattle.service_model.specs.declared.call.Opening.{Opening}
-use Rattle.driver_model.specs.ImageSweep.{image_swept}
+use Rattle.world_model.specs.ImageSweep.{image_swept}
 
 pub data Move : Type 0 where
   -- units: a price is spent; no more than so many are left for a while; what was set aside comes back

@@ -15,7 +15,7 @@ use Rattle.service_thunks.specs.declared.service.Service.TheVariants.{Unbuilt}
 use Rattle.world_model.specs.World.{State}
 use Rattle.world_model.specs.World.{Soft}
 use Rattle.world_model.specs.Thunks.{thunk_at}
-use Rattle.service_model.specs.BootServices.{is_boot_service, served}
+use Rattle.service_model.specs.BootServices.{served}
 use Rattle.service_model.specs.declared.call.Caller.{Caller}
 use Rattle.service_model.specs.declared.call.Served.{Served}
 use Rattle.service_model.specs.declared.call.Served.TheVariants as served_as
@@ -40,10 +40,6 @@ bus_functions = BUS_SUPPORTED ∷ BUS_START ∷ BUS_STOP ∷ BUS_GET_DRIVER ∷ 
 abbrev pub is_bus_function : ℕ → Bool
 is_bus_function at = list_any (nat_eq at) bus_functions
 
--- the functions of PCI I/O are not built yet
-abbrev pub available : Service → Service
-available service = if is_boot_service service then service else Unbuilt
-
 abbrev pub thunk_or_nothing : Option ℕ → Callee
 thunk_or_nothing (Some entry) = AThunk entry
 thunk_or_nothing None = Nothing
@@ -51,7 +47,7 @@ thunk_or_nothing None = Nothing
 -- a service; a function of the bus driver, which a driver may not call, so that it answers as a service that is not
 -- built; a live thunk; or nothing
 abbrev pub callee_by : Option Service → (at : ℕ) → Soft → Callee
-callee_by (Some service) at soft = AService (available service)
+callee_by (Some service) at soft = AService service
 callee_by None at soft = if is_bus_function at then AService Unbuilt else thunk_or_nothing (thunk_at at soft)
 
 unfoldable pub callee : (at : ℕ) → Soft → Callee

@@ -17,6 +17,7 @@ use Rattle.open_records.specs.OpenRecords.{RecordTable}
 use Rattle.open_records.specs.declared.open_record.KeyedRecord.{KeyedRecord}
 use Rattle.world_model.specs.World.{Soft, State}
 use Rattle.world_model.specs.Images.{image_at, image_of, without_image}
+use Rattle.world_model.specs.ImageSweep.{image_swept, is_agent_of, left_of, record_stays}
 use Rattle.world_model.specs.Interfaces.{is_image}
 use Rattle.world_model.specs.Kept.{IsKept}
 use Rattle.world_model.specs.ThunkLaws.{is_image_handle}
@@ -26,7 +27,6 @@ use Rattle.world_model.specs.declared.thunk.Thunk.{Thunk}
 use Rattle.driver_model.specs.Moves.{plain}
 use Rattle.driver_model.specs.Allowed.{has_sixteen}
 use Rattle.driver_model.specs.CallLaws.{left_by_call}
-use Rattle.driver_model.specs.ImageSweep.{image_swept, is_agent_of, is_loaded_image_of, is_owned_by, record_stays}
 use Rattle.driver_model.specs.Levels.{below, level_over, level_with}
 use Rattle.driver_model.specs.Staying.{CanRun, Stays, fits_list}
 use Rattle.driver_model.specs.Unloading.{handler_of, unload_call, unloaded}
@@ -79,11 +79,6 @@ SweptImagesAreGone =
     → IsGone image soft (image_swept image.handle soft)
 
 -- ---- what is left
-
--- what is left of a handle's interface of a protocol: nothing if the image owns it, or if it is the image's loaded image
--- interface
-abbrev pub left_of : (image handle : ℕ) → (guid : List ℕ) → Option (ℕ × ℕ) → Option (ℕ × ℕ)
-left_of image handle guid found = if is_owned_by image found || is_loaded_image_of image handle guid then None else found
 
 -- Whatever is not the image's is as it was. An interface stays unless the image owns it or it is its loaded image
 -- interface, and a handle stays live if one of its interfaces stays. A record stays if its agent is none of the image's, its

@@ -22,7 +22,7 @@ use Rattle.world_model.specs.declared.image.LoadedImage.{LoadedImage}
 use Rattle.driver_model.specs.Moves.{Operations, drops_all, puts_back}
 use Rattle.driver_model.specs.Level.{Level}
 use Rattle.driver_model.specs.ImageLife.{failure_of}
-use Rattle.driver_model.specs.ImageSweep.{is_in_use}
+use Rattle.world_model.specs.ImageSweep.{is_in_use}
 use Rattle.driver_model.specs.declared.call.Call.{Call}
 use Rattle.driver_model.specs.declared.call.CallKind.TheVariants.{Unload}
 use Rattle.driver_model.specs.declared.call.Scope.{Scope}

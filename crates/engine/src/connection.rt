@@ -4,40 +4,16 @@ ghost use Rattle.fw_types.specs.declared.limits.TheConstants.{MOST_LEVELS as mos
 ghost use Rattle.world_model.specs.Levels.{has_marks, is_free};
 ghost use Rattle.world_model.specs.Marks.{stacks};
 ghost use Rattle.driver_model.specs.Moves.{plain};
-ghost use Rattle.driver_model.specs.Connect.{child_connection, child_visited, children_visited, connect, connected, status_of, with_children};
+ghost use Rattle.driver_model.specs.Connect.{child_visited, children_visited, connect, connected, with_children};
 ghost use Rattle.engine.specs.AtLevel.{level_at, level_below};
 ghost use Rattle.bind_parts.specs.Events.{NoFewerEvents};
 
 use crate::search::search;
-use bind_parts::{children_of, live_handle};
+use bind_parts::{child_connection, children_of, connect_status, live_handle};
 use driver_model::{Connection, Scope, Settings};
 use fw_types::{CALL_PRICE, EventKind, Handle, OutOfMemory, Outcome, Status};
 use fw_world::World;
 use world_model::laws::{levels_are_free, marks_suffice};
-
-/// How a child is connected: with no path, and its children too.
-fn child_connection(controller: u64) -> Connection
-    ensures { result ≡ child_connection controller }
-{
-    Connection {
-        controller,
-        path: 0,
-        at_end: false,
-        recursive: true,
-    }
-}
-
-/// What ConnectController answers in the end: SUCCESS if a Start succeeded or the path is an End
-/// node, and otherwise NOT_FOUND.
-fn status_of(c: &Connection, any: bool) -> Status
-    ensures { result ≡ status_of c.now any }
-{
-    if any || c.at_end {
-        Status::SUCCESS
-    } else {
-        Status::NOT_FOUND
-    }
-}
 
 /// Connects drivers to a controller, at the level with this room. The handles of `context` are
 /// asked first. The answer is the first of these that applies: ABORTED if fewer units are left than
@@ -115,7 +91,7 @@ fn connect_in_event(
     };
     let any = search(world, settings, room - 1, scope, c, controller, context)?;
     connect_children(world, settings, room - 1, scope, c, controller)?;
-    Ok(status_of(c, any))
+    Ok(connect_status(c, any))
 }
 
 /// Connects the children of a controller, if that is asked for and the controller is live.

@@ -1,7 +1,8 @@
 //! The engine that runs drivers over the world: ConnectController and DisconnectController, the
 //! driver calls that they make, the runs of EBC code inside those, and the services by which that
 //! code enters the driver model again, 32 levels deep (UEFI 2.8, 7.3, 11.1
-//! and chapter 22). It also loads images, whose entry points it calls (UEFI 2.8, 7.4).
+//! and chapter 22). It also loads images, whose entry points it calls, and unloads them (UEFI 2.8,
+//! 7.4).
 //!
 //! What each function does is a definition of `driver_model`, which its contract cites. The
 //! functions call each other in one cycle, which goes down a level with each driver call, each
@@ -26,6 +27,7 @@ mod disconnection;
 mod driver_call;
 mod guest_run;
 mod image_load;
+mod image_unload;
 mod native_call;
 mod removal;
 mod search;
@@ -33,10 +35,12 @@ mod stop_turn;
 mod thunk_call;
 mod uninstallation;
 
+pub use bind_parts::ImageLoad;
 pub use connection::connect;
 pub use disconnection::disconnect;
 pub use driver_call::call_driver;
-pub use image_load::{ImageLoad, load_image};
+pub use image_load::load_image;
+pub use image_unload::unload_image;
 
 #[cfg(test)]
 mod tests;

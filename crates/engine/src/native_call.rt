@@ -4,7 +4,6 @@ ghost use Rattle.fw_types.specs.declared.limits.TheConstants.{MOST_LEVELS as mos
 ghost use Rattle.world_model.specs.Images.{image_at};
 ghost use Rattle.world_model.specs.Levels.{has_marks, is_free};
 ghost use Rattle.world_model.specs.Marks.{stacks};
-ghost use Rattle.service_model.specs.BootServices.{is_boot_service};
 ghost use Rattle.driver_model.specs.Moves.{plain};
 ghost use Rattle.driver_model.specs.GoingOn.{gone_on, reentered};
 ghost use Rattle.driver_model.specs.Levels.{level_with};
@@ -77,7 +76,6 @@ fn call_service(
     requires room { room ≤ most_levels }
     requires free { is_free room (stacks world.old.now.soft) world.old.marks ≡ true }
     requires marks { has_marks 2 room world.old.marks ≡ true }
-    requires boot { is_boot_service service ≡ true }
     ensures turn { IfOk result (λ end.
         service_called plain settings.now (level_below settings.now room) scope (level_with room)
         service image cpu.old world.old.now
