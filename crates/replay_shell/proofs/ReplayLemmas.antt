@@ -12,7 +12,8 @@ use Rattle.script_text.specs.declared.script.Script.{Script}
 use Rattle.bind_engine.specs.Machine.{MachineView}
 use Rattle.bind_engine.specs.Boot.{booted}
 use Rattle.bind_engine.specs.Commands.{exec}
-use Rattle.replay_shell.specs.Headline.{EndsWith, answer, opening_text, reads_at, reply_texts, report, texts}
+use Rattle.replay_shell.specs.Endings.{EndsWith, reads_at}
+use Rattle.replay_shell.specs.Headline.{answer, opening_text, reply_texts, report, texts}
 use Rattle.replay_shell.specs.declared.replay.Stop.{Stop}
 use Rattle.replay_shell.specs.declared.replay.Stop.TheVariants.{Shelf, Sink, Memory}
 use Rattle.replay_shell.specs.Replay.{Replays, TakesTurn, TakesTurns, text_of}
@@ -72,7 +73,7 @@ SoFar-more files first commands i machine next old now new command so_far there 
       taken = wrote ∙ ap (λ (t : Option (List ℕ)). with_bytes t text) so_far.taken ∙ with_bytes-again old (concat (take i all)) text ∙ ap (with_bytes old) (sym (concat-take all rest i text here));
     })
 
-drop-past : (commands : List Command) (i : ℕ) → length commands ≤ i → drop i commands ≡ []
+pub drop-past : (commands : List Command) (i : ℕ) → length commands ≤ i → drop i commands ≡ []
 drop-past commands i past = grind (arith, common_steps)
 
 take-past : (xss : List (List ℕ)) (i : ℕ) → drop i xss ≡ [] → take i xss ≡ xss

@@ -1,3 +1,4 @@
 pub mod OtherTexts
 pub mod Headline
+pub mod Endings
 pub mod Replay

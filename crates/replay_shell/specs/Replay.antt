@@ -12,7 +12,8 @@ use Rattle.bind_engine.specs.declared.machine.ExecFault.{ExecFault}
 use Rattle.bind_engine.specs.declared.machine.ExecFault.TheVariants.{ShelfFailed, OutOfMemory}
 use Rattle.replay_shell.specs.declared.replay.Stop.{Stop}
 use Rattle.replay_shell.specs.declared.replay.Stop.TheVariants.{Shelf, Sink, Memory}
-use Rattle.replay_shell.specs.Headline.{StopsAtRead, TakesPrefix, reads_at, report, texts}
+use Rattle.replay_shell.specs.Endings.{StopsAtRead, TakesPrefix, reads_at}
+use Rattle.replay_shell.specs.Headline.{report, texts}
 
 -- the stop that a fault of the machine makes
 abbrev pub stop_of : ExecFault → Stop

@@ -102,7 +102,7 @@ fn boards_are_replayed_or_refused(rt: HostRuntime) -> Result<(), Fail> {
             "script 2 Number\n",
         ),
         ("root 0 0\n# again\n\nroot 1 0", 2, "script 4 Duplicate\n"),
-        ("unload 3", 2, "script 1 NotBuilt\n"),
+        ("unload", 2, "script 1 Missing\n"),
         ("root 0 0", 0, ""),
         (
             "root 0 0\nload a.efi",

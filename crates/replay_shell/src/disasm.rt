@@ -1,8 +1,9 @@
 ghost use Rattle.std.specs.Prelude.{◌≡◌, ◌≢◌, ◌≤◌, [], Some, IfErr, IfOk, IsErrOf, false, nat_eq, string_bytes};
 ghost use Rattle.fw_shelf.specs.Faults.{Rose};
-ghost use Rattle.fw_shelf.specs.Shelf.{Files, file_of};
+ghost use Rattle.fw_shelf.specs.Shelf.{Files};
 ghost use Rattle.pe_image.specs.ImageRules.{entry_of, refusal_of, size_of};
-ghost use Rattle.replay_shell.specs.Headline.{EndsWith, answer, code_listing, code_listing_to, gives_up, image_answer, image_file_answer, no_script};
+ghost use Rattle.replay_shell.specs.Endings.{EndsWith, gives_up, no_script};
+ghost use Rattle.replay_shell.specs.Headline.{answer, code_listing, code_listing_to, disasm, form_answer, image_answer};
 ghost use Rattle.replay_shell.specs.OtherTexts.{refused_image_line};
 
 use crate::replay::Stop;
@@ -131,7 +132,7 @@ pub fn list_image<F: Shelf, K: Sink>(
     sink: &mut K,
 ) -> Result<u8, Stop>
     ensures taken { (files : Files) → F.files shelf.old ≡ Some files
-        → EndsWith (image_file_answer (file_of files name.now)) files no_script
+        → EndsWith (form_answer files (Some (disasm name.now))) files no_script
         result (K.taken sink.old) (K.taken sink.new) }
     ensures status { IfOk result
         (λ answer. (gives_up answer ≡ false) × (nat_eq answer 1 ≡ false)) }

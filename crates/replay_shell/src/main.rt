@@ -1,11 +1,12 @@
 //! The program: it reads a script, replays its commands on the driver-model machine, and writes the
 //! report.
 //!
-//! The way of a command: `respond` reads the words, `script_text` turns the script's lines into a
-//! board and commands, `replay` begins the machine of `bind_engine` with the board and hands it from
-//! command to command, and `report_text` makes the text of the board's notes and that of each
-//! command. `disasm` lists an image. `top` is all of this over any shelf and any
-//! sink.
+//! The way of a command: `words` reads the words, `run` has `script_text` turn the script's lines
+//! into a board and commands, `replay` begins the machine of `bind_engine` with the board and hands
+//! it from command to command, and `report_text` makes the text of the board's notes and that of each
+//! command. `check` reads a script alone. `selftest` has `load_gen` make a script, and `summary` adds
+//! up its replies. `disasm` lists an image. `respond` is all four forms, and `top` is all of this
+//! over any shelf and any sink.
 #![tactic(auto)]
 
 ghost use Rattle.std.specs.Prelude.{◌≡◌, ◌≢◌, IfOk, drop};
@@ -13,7 +14,10 @@ ghost use Rattle.std.specs.Vec.Iter.{into_iter_items};
 
 #[cfg(test)]
 mod board_tests;
+mod check;
 mod disasm;
+#[cfg(test)]
+mod form_tests;
 #[cfg(test)]
 mod image_tests;
 #[cfg(test)]
@@ -24,14 +28,19 @@ mod load_tests;
 mod outside_tests;
 #[cfg(test)]
 mod protocol_tests;
+mod refusal;
 mod replay;
 mod respond;
+mod run;
 mod say;
+mod selftest;
 #[cfg(test)]
 mod service_tests;
+mod summary;
 #[cfg(test)]
 mod tests;
 mod top;
+mod words;
 
 use fw_shelf::{DirShelf, OutSink};
 use std::alloc::{AllocError, Global};

@@ -148,7 +148,11 @@ fn board_of(alloc: Global, lines: &[BoardLine]) -> Result<Board, OutOfMemory>
 ///
 /// - `Shelf` only if the shelf failed, and only if a line of the board names a file.
 /// - `Memory` if there is no memory.
-fn boot<F: Shelf>(alloc: Global, script: &Script, shelf: &mut F) -> Result<(Machine, String), Stop>
+pub fn boot<F: Shelf>(
+    alloc: Global,
+    script: &Script,
+    shelf: &mut F,
+) -> Result<(Machine, String), Stop>
     requires board { board_fault script.now.board ≡ None }
     ensures machine { (files : Files) → F.files shelf.old ≡ Some files
         → IfOk result (λ boot. boot.0 ≡ booted files (board_of script.now.board)) }

@@ -1,7 +1,8 @@
 ghost use Rattle.std.specs.Prelude.{◌≡◌, IfErr, IfOk, OnErr};
 ghost use Rattle.fw_shelf.specs.Faults.{Rose};
 ghost use Rattle.fw_shelf.specs.Shelf.{Files};
-ghost use Rattle.replay_shell.specs.Headline.{EndsWith, answer};
+ghost use Rattle.replay_shell.specs.Endings.{EndsWith};
+ghost use Rattle.replay_shell.specs.Headline.{answer};
 ghost use Rattle.script_text.specs.declared.script.Script.{Script as ScriptValue};
 
 use crate::replay::Stop;

@@ -106,7 +106,7 @@ fn words_are_answered(rt: HostRuntime) -> Result<(), Fail> {
         (&["run"], 1, usage),
         (&["run", "s", "s"], 1, usage),
         (&["Run", "s"], 1, usage),
-        (&["check", "s"], 1, usage),
+        (&["selftest"], 1, usage),
         (&["run", "x"], 6, "no such file\n"),
     ];
     for (texts, want, line) in cases {
@@ -119,7 +119,7 @@ fn words_are_answered(rt: HostRuntime) -> Result<(), Fail> {
 
 /// A script with each command.
 const EACH_COMMAND: &str = "load a.efi\nload none.efi\nconnect 3 one end\n\
-    disconnect 3 0 0\nplatform 3 2 3\nbudget 1000 64\ndump\n";
+    disconnect 3 0 0\nunload 3\nplatform 3 2 3\nbudget 1000 64\ndump\n";
 
 /// Its report: the image is no driver, so the PCI bus driver alone is asked.
 const EACH_COMMAND_REPORT: &str =
@@ -128,6 +128,7 @@ const EACH_COMMAND_REPORT: &str =
     > connect 3 one end\n1 0 connect 0 3 0 SUCCESS\n2 1 supported 2 3 0 UNSUPPORTED\n\
     = SUCCESS 128\n\
     > disconnect 3 0 0\n1 0 disconnect 0 3 0 SUCCESS\n= SUCCESS 64\n\
+    > unload 3\n= UNSUPPORTED 0\n\
     > platform 3 2 3\n= SUCCESS 0\n> budget 1000 64\n= SUCCESS 0\n\
     > dump\nhandle 1\nproto 5b1b31a1-9562-11d2-8e3f-00a0c969723b 0x14000 1\n\
     handle 2\nproto 18a031ab-b443-4d1a-a5c0-0c09261e9f71 0x13000 1\n\
@@ -140,7 +141,7 @@ fn scripts_are_replayed_or_refused(rt: HostRuntime) -> Result<(), Fail> {
         ("", 0, ""),
         (EACH_COMMAND, 0, EACH_COMMAND_REPORT),
         ("load a.efi\nload a\u{7f}\n", 2, "script 2 NotAscii\n"),
-        ("unload 3", 2, "script 1 NotBuilt\n"),
+        ("unload 3 4", 2, "script 1 Extra\n"),
         ("\n\nfly\nload", 2, "script 3 UnknownWord\n"),
         ("load", 2, "script 1 Missing\n"),
         ("dump 3", 2, "script 1 Extra\n"),

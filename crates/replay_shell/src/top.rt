@@ -1,19 +1,21 @@
-ghost use Rattle.std.specs.Prelude.{◌≡◌, ◌≤◌, ◌+◌, [], Some, false, is_none, length, nat_eq};
+ghost use Rattle.std.specs.Prelude.{◌≡◌, ◌≤◌, ◌+◌, [], Some, false, is_none, length, nat_eq, true};
 ghost use Rattle.fw_shelf.specs.Faults.{Rose};
 ghost use Rattle.fw_shelf.specs.Shelf.{Files};
 ghost use Rattle.fw_shelf.specs.Sink.{TakesProperPrefix};
-ghost use Rattle.replay_shell.specs.Headline.{IsAnswered, StopsAtRead, TakesPrefix, form_of, gives_up, script_for, text_for, words_in};
+ghost use Rattle.replay_shell.specs.Endings.{IsAnswered, StopsAtRead, TakesPrefix, gives_up, names_file, script_for, text_for};
+ghost use Rattle.replay_shell.specs.Headline.{form_of, words_in};
 
 use crate::replay::Stop;
 use crate::respond::respond;
 use fw_shelf::{MemShelf, MemSink, Shelf, Sink};
 use std::alloc::Global;
 
-/// Does all that the program does: reads the words after its name, replays a script or lists an
-/// image with the files of a shelf, and writes to a sink. The answer is the status with which the
-/// program ends:
+/// Does all that the program does: reads the words after its name, replays or checks a script, runs
+/// a generated load or lists an image, with the files of a shelf, and writes to a sink. The answer is
+/// the status with which the program ends:
 ///
-/// - 0: done, and the whole report or listing was written;
+/// - 0: done, and the whole text was written: the report of a script, `ok`, the summary of a load or
+///   the listing of an image;
 /// - 1: the words have no form that the program knows, and the usage line was written;
 /// - 2: the script is refused, and a line was written that says where and why;
 /// - 3: the shelf failed, and nothing was written, or the notes of the board and the texts of the
@@ -28,12 +30,17 @@ pub fn top<F: Shelf, K: Sink>(alloc: Global, words: &Vec<String>, shelf: &mut F,
     // is, byte for byte, the answer's text.
     ensures answered { (files : Files) → F.files shelf.old ≡ Some files → gives_up result ≡ false
         → IsAnswered files (words_in words.now.items) result (K.taken sink.old) (K.taken sink.new) }
+    // The same for words that name no file, also if the files of the shelf are not known.
+    ensures alone { names_file (form_of (words_in words.now.items)) ≡ false
+        → gives_up result ≡ false → (files : Files)
+        → IsAnswered files (words_in words.now.items) result (K.taken sink.old) (K.taken sink.new) }
     // Status 1 comes exactly for words of no form, also if the files of the shelf are not known.
     ensures usage { gives_up result ≡ false
         → nat_eq result 1 ≡ is_none (form_of (words_in words.now.items)) }
 
-    // Status 3 comes only if the shelf failed. Nothing was taken, or the text ends before a command
-    // that reads a file.
+    // Status 3 comes only if the words name a file and the shelf failed. Nothing was taken, or the
+    // text ends before a command that reads a file.
+    ensures shelf_named { result ≡ 3 → names_file (form_of (words_in words.now.items)) ≡ true }
     ensures shelf_failed { result ≡ 3 → Rose (F.faults shelf.old) (F.faults shelf.new) }
     ensures shelf_cuts { (files : Files) → F.files shelf.old ≡ Some files → result ≡ 3
         → StopsAtRead files (script_for files (words_in words.now.items))
@@ -53,7 +60,10 @@ pub fn top<F: Shelf, K: Sink>(alloc: Global, words: &Vec<String>, shelf: &mut F,
         → ¬ Rose (F.faults shelf.old) (F.faults shelf.new)
         → ¬ Rose (K.faults sink.old) (K.faults sink.new) → nat_eq result 5 ≡ false
         → IsAnswered files (words_in words.now.items) result (K.taken sink.old) (K.taken sink.new) }
-    // The files stay as they are, and no count of faults falls.
+    // Words that name no file leave the shelf as it is. The files stay as they are, and no count of
+    // faults falls.
+    ensures untouched { names_file (form_of (words_in words.now.items)) ≡ false
+        → shelf.new ≡ shelf.old }
     ensures same_files { F.files shelf.new ≡ F.files shelf.old }
     ensures shelf_faults { F.faults shelf.old ≤ F.faults shelf.new }
     ensures sink_faults { K.faults sink.old ≤ K.faults sink.new }

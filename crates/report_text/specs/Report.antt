@@ -8,7 +8,7 @@ use Rattle.uuid.specs.Text.{hyphenated_text, lower}
 use Rattle.fw_types.specs.Status.{name_of}
 use Rattle.fw_types.specs.declared.status.Status.{Status}
 use Rattle.fw_types.specs.declared.command.Command.{Command}
-use Rattle.fw_types.specs.declared.command.Command.TheVariants.{Load, Connect, Disconnect, Platform, Budget, Dump}
+use Rattle.fw_types.specs.declared.command.Command.TheVariants.{Load, Connect, Disconnect, Unload, Platform, Budget, Dump}
 use Rattle.fw_types.specs.declared.command.PathArg.{PathArg}
 use Rattle.fw_types.specs.declared.command.PathArg.TheVariants.{Null, End, Pci}
 use Rattle.fw_types.specs.declared.event.Cause.{Cause}
@@ -129,6 +129,7 @@ abbrev pub command_words : Command → List (List ℕ)
 command_words (Load name) = codes "load" ∷ name ∷ []
 command_words (Connect controller recursive path context) = codes "connect" ∷ decimal controller ∷ recursion_word recursive ∷ path_word path ∷ map decimal context
 command_words (Disconnect controller driver child) = codes "disconnect" ∷ decimal controller ∷ decimal driver ∷ decimal child ∷ []
+command_words (Unload image) = codes "unload" ∷ decimal image ∷ []
 command_words (Platform controller drivers) = codes "platform" ∷ decimal controller ∷ map decimal drivers
 command_words (Budget all call) = codes "budget" ∷ decimal all ∷ decimal call ∷ []
 command_words Dump = codes "dump" ∷ []

@@ -5,7 +5,7 @@
 //! driver call and activation, for each image of a file, for the end of an option ROM and for each
 //! line of a dump, and at last the status and the units; [`render`] writes it. The definition is
 //! `specs/Report.antt`, which makes each line of words. [`refusal_name`] gives the word for a
-//! refused image, which other lines have too.
+//! refused image and [`end_name`] that for the end of an option ROM, which other programs' lines have too.
 #![tactic(auto)]
 
 mod boot;
@@ -16,4 +16,4 @@ mod tests;
 
 pub use boot::render_boot;
 pub use lines::render;
-pub use names::refusal_name;
+pub use names::{end_name, refusal_name};

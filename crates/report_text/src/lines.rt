@@ -88,6 +88,7 @@ fn write_command(out: &mut String, command: &Command) -> Result<(), AllocError>
             driver,
             child,
         } => writeln!(out, "> disconnect {controller} {driver} {child}"),
+        Command::Unload { image } => writeln!(out, "> unload {image}"),
         Command::Platform {
             controller,
             drivers,

@@ -16,7 +16,7 @@ use Rattle.pci_model.specs.declared.fault.LineFault.{LineFault}
 use Rattle.pci_model.specs.declared.fault.LineFault.TheVariants as fault
 use Rattle.script_text.specs.declared.script.TheConstants.{MOST_LINE_BYTES, MOST_LINES}
 use Rattle.script_text.specs.declared.keyword.Keyword.{Keyword}
-use Rattle.script_text.specs.declared.keyword.Keyword.TheVariants.{Root, Func, Bridge, Bar, Rom, Load, Connect, Disconnect, Platform, Budget, Dump}
+use Rattle.script_text.specs.declared.keyword.Keyword.TheVariants.{Root, Func, Bridge, Bar, Rom, Load, Connect, Disconnect, Unload, Platform, Budget, Dump}
 use Rattle.script_text.specs.Numbers.{number_of}
 use Rattle.script_text.proofs.NumbersLemmas.{only_between-within}
 use Rattle.script_text.specs.declared.script.Item.{Item}
@@ -282,6 +282,7 @@ item_for-legal ws Rom = refl
 item_for-legal ws Load = refl
 item_for-legal ws Connect = refl
 item_for-legal ws Disconnect = refl
+item_for-legal ws Unload = refl
 item_for-legal ws Platform = refl
 item_for-legal ws Budget =
     rw (only_between-within LEAST_COMMAND_BUDGET MOST_BUDGET (number_of (word_at ws 1)) (omega arith), only_between-within LEAST_CALL_BUDGET MOST_BUDGET (number_of (word_at ws 2)) (omega arith)) refl

@@ -9,7 +9,7 @@ use Rattle.script_text.specs.declared.script.TheConstants.{MOST_LISTED_HANDLES, 
 use Rattle.script_text.specs.declared.script.ScriptKind.{ScriptKind}
 use Rattle.script_text.specs.declared.script.ScriptKind.TheVariants.{TooLong, UnknownWord, Number}
 use Rattle.script_text.specs.declared.keyword.Keyword.{Keyword}
-use Rattle.script_text.specs.declared.keyword.Keyword.TheVariants.{Root, Func, Bridge, Bar, Rom, Load, Connect, Disconnect, Platform, Budget, Dump}
+use Rattle.script_text.specs.declared.keyword.Keyword.TheVariants.{Root, Func, Bridge, Bar, Rom, Load, Connect, Disconnect, Unload, Platform, Budget, Dump}
 use Rattle.script_text.specs.declared.keyword.Argument.{Argument}
 use Rattle.script_text.specs.declared.keyword.Argument.TheVariants.{Name, Recursion, Path, Within}
 use Rattle.script_text.specs.Numbers.{is_plain_decimal, number_in}
@@ -66,20 +66,17 @@ form_of Rom = form (codes "rom") (bits 8 ∷ bits 8 ∷ bits 8 ∷ Name ∷ []) 
 form_of Load = form (codes "load") (Name ∷ []) 0
 form_of Connect = form (codes "connect") (handle ∷ Recursion ∷ Path ∷ []) MOST_LISTED_HANDLES
 form_of Disconnect = form (codes "disconnect") (handle ∷ handle ∷ handle ∷ []) 0
+form_of Unload = form (codes "unload") (handle ∷ []) 0
 form_of Platform = form (codes "platform") (handle ∷ []) MOST_LISTED_HANDLES
 form_of Budget = form (codes "budget") (Within LEAST_COMMAND_BUDGET MOST_BUDGET ∷ Within LEAST_CALL_BUDGET MOST_BUDGET ∷ []) 0
 form_of Dump = form (codes "dump") [] 0
 
 abbrev pub keywords : List Keyword
-keywords = Root ∷ Func ∷ Bridge ∷ Bar ∷ Rom ∷ Load ∷ Connect ∷ Disconnect ∷ Platform ∷ Budget ∷ Dump ∷ []
+keywords = Root ∷ Func ∷ Bridge ∷ Bar ∷ Rom ∷ Load ∷ Connect ∷ Disconnect ∷ Unload ∷ Platform ∷ Budget ∷ Dump ∷ []
 
 -- the keyword whose word comes first, if there is one
 abbrev pub keyword_of : List (List ℕ) → Option Keyword
 keyword_of words = find (λ keyword. bytes_eq (word_at words 0) (form_of keyword).word) keywords
-
--- the first words of which nothing is built so far
-abbrev pub unbuilt_words : List (List ℕ)
-unbuilt_words = codes "unload" ∷ []
 
 -- ---- arguments
 

@@ -20,13 +20,13 @@ use Rattle.script_text.specs.declared.script.Item.{Item}
 use Rattle.script_text.specs.declared.script.Item.TheVariants as item
 use Rattle.script_text.specs.declared.script.Script.{Script}
 use Rattle.script_text.specs.declared.script.ScriptKind.{ScriptKind}
-use Rattle.script_text.specs.declared.script.ScriptKind.TheVariants.{TooLong, NotAscii, NotBuilt, UnknownWord, Missing, Extra, Number, BoardLate, Duplicate}
+use Rattle.script_text.specs.declared.script.ScriptKind.TheVariants.{TooLong, NotAscii, UnknownWord, Missing, Extra, Number, BoardLate, Duplicate}
 use Rattle.script_text.specs.declared.script.ScriptFault.{ScriptFault}
 use Rattle.script_text.specs.declared.script.ScriptFault.TheVariants.{Refused, OutOfMemory}
 use Rattle.script_text.specs.declared.keyword.Keyword.{Keyword}
-use Rattle.script_text.specs.declared.keyword.Keyword.TheVariants.{Root, Func, Bridge, Bar, Rom, Load, Connect, Disconnect, Platform, Budget, Dump}
+use Rattle.script_text.specs.declared.keyword.Keyword.TheVariants.{Root, Func, Bridge, Bar, Rom, Load, Connect, Disconnect, Unload, Platform, Budget, Dump}
 use Rattle.script_text.specs.Numbers.{number_in}
-use Rattle.script_text.specs.Forms.{form_of, keyword_of, line_words, path_of, some_refused, unbuilt_words}
+use Rattle.script_text.specs.Forms.{form_of, keyword_of, line_words, path_of, some_refused}
 
 -- ---- what lines give
 
@@ -56,6 +56,7 @@ item_for Rom words = item.Board (board.Rom (number_at 8 words 1) (number_at 8 wo
 item_for Load words = item.Command (command.Load (word_at words 1))
 item_for Connect words = item.Command (command.Connect (handle_at words 1) (bytes_eq (word_at words 2) (codes "all")) (unwrap_or (path_of (word_at words 3)) Null) (handles_from words 4))
 item_for Disconnect words = item.Command (command.Disconnect (handle_at words 1) (handle_at words 2) (handle_at words 3))
+item_for Unload words = item.Command (command.Unload (handle_at words 1))
 item_for Platform words = item.Command (command.Platform (handle_at words 1) (handles_from words 2))
 item_for Budget words = item.Command (command.Budget (units_at words 1 LEAST_COMMAND_BUDGET) (units_at words 2 LEAST_CALL_BUDGET))
 item_for Dump words = item.Command command.Dump
@@ -106,10 +107,6 @@ is_too_long number line words = nat_lt MOST_LINE_BYTES (length line) || nat_lt M
 abbrev pub is_not_ascii : List ℕ → Bool
 is_not_ascii line = not (list_all is_text_byte line)
 
--- nothing is built for the first word so far
-abbrev pub is_not_built : List (List ℕ) → Bool
-is_not_built words = list_any (bytes_eq (word_at words 0)) unbuilt_words
-
 -- there are words, and the first is no keyword, or a word for recursion or for a path is not in the grammar
 abbrev pub has_unknown_word : List (List ℕ) → Bool
 has_unknown_word words = not (nat_eq (length words) 0) && refuses_word UnknownWord true words
@@ -155,7 +152,6 @@ abbrev pub tests_alone : ℕ → List ℕ → List (List ℕ) → List (Bool × 
 tests_alone number line words =
     (is_too_long number line words, TooLong)
     ∷ (is_not_ascii line, NotAscii)
-    ∷ (is_not_built words, NotBuilt)
     ∷ (has_unknown_word words, UnknownWord)
     ∷ (has_too_few_words words, Missing)
     ∷ []

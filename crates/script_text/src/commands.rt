@@ -52,6 +52,15 @@ pub fn disconnect(words: &Words<'_>) -> Item
     })
 }
 
+/// The command of an `unload` line.
+pub fn unload(words: &Words<'_>) -> Item
+    ensures { result ≡ item_for Keyword.Unload words.now }
+{
+    Item::Command(Command::Unload {
+        image: handle_at(words, 1),
+    })
+}
+
 /// The command of a `platform` line.
 ///
 /// # Errors

@@ -4,7 +4,7 @@ ghost use Rattle.script_text.specs.Forms.{are_text};
 ghost use Rattle.script_text.specs.ScriptGrammar.{item_for, item_of};
 
 use crate::board_lines::{bar, bridge, func, rom, root};
-use crate::commands::{budget, connect, disconnect, load, platform};
+use crate::commands::{budget, connect, disconnect, load, platform, unload};
 use crate::keyword::{Keyword, keyword_of};
 use crate::script::Item;
 use fw_types::{Command, OutOfMemory};
@@ -29,6 +29,7 @@ fn item_for(alloc: Global, keyword: Keyword, words: &Words<'_>) -> Result<Item, 
         Keyword::Load => load(alloc, words),
         Keyword::Connect => connect(alloc, words),
         Keyword::Disconnect => Ok(disconnect(words)),
+        Keyword::Unload => Ok(unload(words)),
         Keyword::Platform => platform(alloc, words),
         Keyword::Budget => Ok(budget(words)),
         Keyword::Dump => Ok(Item::Command(Command::Dump)),

@@ -16,6 +16,7 @@ pub enum Keyword {
     Load,
     Connect,
     Disconnect,
+    Unload,
     Platform,
     Budget,
     Dump,
@@ -91,6 +92,8 @@ pub fn keyword_of(words: &Words<'_>) -> Option<Keyword>
         Some(Keyword::Connect)
     } else if is(word, "disconnect") {
         Some(Keyword::Disconnect)
+    } else if is(word, "unload") {
+        Some(Keyword::Unload)
     } else if is(word, "platform") {
         Some(Keyword::Platform)
     } else if is(word, "budget") {
@@ -115,6 +118,7 @@ pub fn arguments(keyword: Keyword) -> &'static [Argument]
         Keyword::Load => &[Argument::Name],
         Keyword::Connect => &[HANDLE, Argument::Recursion, Argument::Path],
         Keyword::Disconnect => &[HANDLE, HANDLE, HANDLE],
+        Keyword::Unload => &[HANDLE],
         Keyword::Platform => &[HANDLE],
         Keyword::Budget => &[COMMAND_UNITS, CALL_UNITS],
         Keyword::Dump => &[],

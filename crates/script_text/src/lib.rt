@@ -21,6 +21,7 @@ mod script;
 mod tests;
 mod values;
 
+pub use numbers::number_in;
 pub use read::parse;
 pub use script::{
     MOST_LINE_BYTES, MOST_LINES, MOST_LISTED_HANDLES, MOST_NAME_BYTES, Script, ScriptFault,

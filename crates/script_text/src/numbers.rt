@@ -49,7 +49,8 @@ fn number_of(word: &[u8]) -> Option<u64>
     }
 }
 
-/// The number that a word writes, if it writes one from the least to the most.
+/// The number that a word writes, if it writes one from the least to the most: decimal digits, or
+/// `0x` and 1 to 16 hexadecimal digits, within 64 bits.
 pub fn number_in(least: u64, most: u64, word: &[u8]) -> Option<u64>
     ensures value { result ≡ number_in least most word.now }
     ensures within { IfSome result (λ n. n ≤ most) }

@@ -1,13 +1,13 @@
 //! Why a line is refused: the tests of each kind, in the order in which they count.
 ghost use Rattle.std.specs.Prelude.{◌≡◌, drop};
 ghost use Rattle.script_text.specs.Forms.{form_of, some_refused};
-ghost use Rattle.script_text.specs.ScriptGrammar.{fault_after, first_kind, has_too_few_words, has_too_many_words, has_unknown_word, has_wrong_number, is_fault, is_late, is_not_built, is_too_long, on_keyword, tests_after, tests_alone};
+ghost use Rattle.script_text.specs.ScriptGrammar.{fault_after, first_kind, has_too_few_words, has_too_many_words, has_unknown_word, has_wrong_number, is_fault, is_late, is_too_long, on_keyword, tests_after, tests_alone};
 
 use crate::arguments::some_refused;
 use crate::keyword::{Keyword, arguments, handles_after, keyword_of};
 use crate::script::{Item, MOST_LINE_BYTES, MOST_LINES, Script, ScriptKind};
 use pci_model::{LineFault, line_fault};
-use text_lines::{Words, is, is_text};
+use text_lines::{Words, is_text};
 
 /// Whether a line with this keyword has a word that is refused for a kind, or the answer for a line
 /// without a keyword.
@@ -33,13 +33,6 @@ fn is_too_long(number: u32, line: &[u8], words: &Words<'_>) -> bool
     line.len() > MOST_LINE_BYTES
         || number > MOST_LINES
         || refuses_word(ScriptKind::TooLong, keyword_of(words), words, false)
-}
-
-/// Whether the first word is one of which nothing is built so far.
-fn is_not_built(words: &Words<'_>) -> bool
-    ensures { result ≡ is_not_built words.now }
-{
-    is(words.at(0), "unload")
 }
 
 /// Whether a line has a first word, a word for recursion or a word for a path that the grammar does
@@ -121,9 +114,6 @@ pub fn refusal_alone(number: u32, line: &[u8], words: &Words<'_>) -> Option<Scri
     }
     if !is_text(line) {
         return Some(ScriptKind::NotAscii);
-    }
-    if is_not_built(words) {
-        return Some(ScriptKind::NotBuilt);
     }
     if has_unknown_word(words) {
         return Some(ScriptKind::UnknownWord);

@@ -43,8 +43,6 @@ pub enum ScriptKind {
     TooLong,
     /// A byte is neither a tab nor a printable ASCII character.
     NotAscii,
-    /// The line asks for something that is not built so far: its first word is `unload`.
-    NotBuilt,
     /// The first word, or the word for recursion or for a path, is not one that the grammar has.
     UnknownWord,
     /// The line has too few words.

@@ -1,5 +1,5 @@
 use crate::script::ScriptKind::{
-    BoardLate, Duplicate, Extra, Missing, NotAscii, NotBuilt, Number, TooLong, UnknownWord,
+    BoardLate, Duplicate, Extra, Missing, NotAscii, Number, TooLong, UnknownWord,
 };
 use crate::{Script, ScriptFault, ScriptKind, parse};
 use fw_types::{Command, OutOfMemory, PathArg, Rows, Text};
@@ -33,8 +33,8 @@ fn first_words_and_their_counts(rt: HostRuntime) {
         ("dump\r\r\n", NotAscii),
         ("dump # \u{e9}", NotAscii),
         ("fly \x7f", NotAscii),
-        ("unload 3", NotBuilt),
-        ("unload", NotBuilt),
+        ("unload", Missing),
+        ("unload 3 4", Extra),
         ("Load a.efi", UnknownWord),
         ("load", Missing),
         ("load a.efi b.efi", Extra),
@@ -68,6 +68,7 @@ fn words_of_arguments(rt: HostRuntime) {
         ("disconnect 0x 0 0", Number),
         ("disconnect 0X1 0 0", Number),
         ("disconnect 0x00000000000000001 0 0", Number),
+        ("unload x", Number),
         ("platform +1", Number),
         ("budget 0 64", Number),
         ("budget 1 63", Number),
@@ -256,7 +257,7 @@ fn function_257_is_extra(rt: HostRuntime) -> Result<(), Fail> {
 const EACH_LINE: &str = "\n# words\r\nroot 0x7 0\n func 0 3 1 0x8086 0x100e 0x020000\n\
     bridge\t0 1 0 0x1b36 1 255\nbar 0 3 1 5 0xFEB00000 0x20\nrom 0 3 1 net.rom # its ROM\n\
     \tload  a.efi # more\r\nconnect 3 all pci:31.7 4 0x5\n\
-    connect 007 one end\ndisconnect 3 0 0xFFFFFFFFFFFFFFFF\nplatform 3 5 4\n\
+    connect 007 one end\ndisconnect 3 0 0xFFFFFFFFFFFFFFFF\nunload 0x5\nplatform 3 5 4\n\
     budget 1 0x2000000\ndump";
 
 /// The board of that script.
@@ -323,6 +324,7 @@ fn each_command(alloc: Global) -> Result<Rows<Command>, OutOfMemory> {
             driver: 0,
             child: u64::MAX,
         },
+        Command::Unload { image: 5 },
         Command::Platform {
             controller: 3,
             drivers: Rows::of(vec![in alloc; 5u64, 4]?),

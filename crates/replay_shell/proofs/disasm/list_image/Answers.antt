@@ -2,7 +2,7 @@ use Rattle.std.proofs.Common.{◌≡◌, Ok, Err, subst}
 use Rattle.std.specs.Prelude.{Option, None}
 use Rattle.fw_shelf.specs.Shelf.{Files, GivesIfKnown, absent, file_of, too_long}
 use Rattle.fw_shelf.specs.declared.shelf.ShelfFault.TheVariants.{TooLong}
-use Rattle.replay_shell.specs.Headline.{no_script}
+use Rattle.replay_shell.specs.Endings.{no_script}
 use Rattle.replay_shell.proofs.disasm.list_image.Goals as goal
 
 pub returns-in-Ok-None-clause-taken : goal.returns-in-Ok-None-clause-taken

@@ -1,4 +1,4 @@
-use Rattle.std.proofs.Common.{◌≡◌, ◌<◌, ◌≤◌, Err, arith, length, rules, ◌∙◌}
+use Rattle.std.proofs.Common.{◌≡◌, Err, arith, rules, ◌∙◌}
 use Rattle.replay_shell.proofs.ReplayLemmas.{SoFar-end, SoFar-more, is_at, stopped-here}
 use Rattle.replay_shell.proofs.replay.take_turns.Goals as goal
 

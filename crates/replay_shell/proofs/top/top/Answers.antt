@@ -1,6 +1,7 @@
 use Rattle.std.proofs.Common.{Err}
 use Rattle.replay_shell.specs.declared.replay.Stop.TheVariants.{Memory, Shelf, Sink}
-use Rattle.replay_shell.specs.Headline.{Ends, words_in}
+use Rattle.replay_shell.specs.Endings.{Ends}
+use Rattle.replay_shell.specs.Headline.{words_in}
 use Rattle.replay_shell.proofs.top.top.Goals as goal
 
 pub returns-in-Err-Shelf-clause-shelf_cuts : goal.returns-in-Err-Shelf-clause-shelf_cuts

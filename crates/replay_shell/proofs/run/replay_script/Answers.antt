@@ -1,6 +1,6 @@
 use Rattle.std.proofs.Common.{◌≡◌, Err, rules}
 use Rattle.replay_shell.proofs.ReplayLemmas.{EndsWith-stopped}
-use Rattle.replay_shell.proofs.respond.replay_script.Goals as goal
+use Rattle.replay_shell.proofs.run.replay_script.Goals as goal
 
 pub returns-in_err-replay-clause-taken : goal.returns-in_err-replay-clause-taken
 returns-in_err-replay-clause-taken g c = λ files known.

@@ -2,8 +2,8 @@ use Rattle.std.proofs.Common.{◌≡◌, Ok, Err, sym, subst, ◌∙◌}
 use Rattle.std.specs.Prelude.{Option, Some, None}
 use Rattle.fw_shelf.specs.Shelf.{Files, GivesIfKnown, absent, file_of, present, too_long}
 use Rattle.fw_shelf.specs.declared.shelf.ShelfFault.TheVariants.{TooLong}
-use Rattle.replay_shell.specs.Headline.{no_script}
-use Rattle.replay_shell.proofs.respond.run_script.Goals as goal
+use Rattle.replay_shell.specs.Endings.{no_script}
+use Rattle.replay_shell.proofs.run.run_script.Goals as goal
 
 pub returns-in-Ok-Some-clause-taken : goal.returns-in-Ok-Some-clause-taken
 returns-in-Ok-Some-clause-taken g c = λ files known.

@@ -1,0 +1,3 @@
+; The place of the handle of the device.
+device:
+        .byte 0, 0, 0, 0, 0, 0, 0, 0

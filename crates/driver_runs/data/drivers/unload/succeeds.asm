@@ -1,0 +1,4 @@
+; The handler does nothing and succeeds: R7 is 0.
+; 2 units.
+unload:
+        RET
