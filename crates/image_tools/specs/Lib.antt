@@ -1,0 +1,4 @@
+pub mod ToolTexts
+pub mod Tools
+pub mod Steps
+pub mod ImageListing
