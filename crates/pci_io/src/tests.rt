@@ -1,9 +1,9 @@
-ghost use Rattle.std.specs.Prelude.{◌≡◌, OnOk, false};
+ghost use Rattle.std.specs.Prelude.{◌≡◌, [], IfOk, OnOk, false};
 ghost use Rattle.service_model.specs.BootServices.{is_boot_service};
 ghost use Rattle.world_model.specs.Marks.{stacks};
 
 use crate::pci_serve;
-use fw_types::{Cause, Guid, Handle, Known, Status};
+use fw_types::{Cause, Guid, Handle, Known, OutOfMemory, Status};
 use fw_world::World;
 use guest_memory::GuestMem;
 use pci_bus::make_child;
@@ -54,7 +54,9 @@ type Call = ([u64; 6], Answer);
 
 /// The board of a root bridge and a function with 64 bytes at BAR 1, with a child for the function, a
 /// stack of level 1, and so many units.
-fn with_a_child(rt: &(impl AllocGlobal + Abort), units: u32) -> Result<World, Fail> {
+fn with_a_child(rt: &(impl AllocGlobal + Abort), units: u32) -> Result<World, Fail>
+    ensures { IfOk result (λ world. world.marks ≡ []) }
+{
     let lines = [
         BoardLine::Root { uid: 0, bus: 0 },
         BoardLine::Func {
@@ -100,20 +102,29 @@ fn put_arguments(world: &mut World, arguments: &[u64; 6]) -> Result<(), Fail>
     Ok(())
 }
 
-/// A function called with the arguments at an address.
-fn called_at(world: &mut World, s: Service, sp: u64) -> Result<Answer, Fail>
+/// What a function answers to a caller.
+fn answered(world: &mut World, s: Service, caller: &Caller) -> Result<Served, OutOfMemory>
     requires { is_boot_service s ≡ false }
     ensures marks { OnOk result (world.new.marks ≡ world.old.marks) }
     ensures stacks { OnOk result (stacks world.new.now.soft ≡ stacks world.old.now.soft) }
 {
     services_keep();
     world.is_kept();
+    pci_serve(world, s, caller)
+}
+
+/// A function called with the arguments at an address.
+fn called_at(world: &mut World, s: Service, sp: u64) -> Result<Answer, Fail>
+    requires { is_boot_service s ≡ false }
+    ensures marks { OnOk result (world.new.marks ≡ world.old.marks) }
+    ensures stacks { OnOk result (stacks world.new.now.soft ≡ stacks world.old.now.soft) }
+{
     let caller = Caller {
         image: Handle::bus_driver(),
         level: 1,
         sp,
     };
-    match pci_serve(world, s, &caller)? {
+    match answered(world, s, &caller)? {
         Served::Value(value) => Ok(Answer::Value(value)),
         Served::Trap(cause) => Ok(Answer::Trap(cause)),
         Served::Again(_) => Ok(Answer::GoesOn),
