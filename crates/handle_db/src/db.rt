@@ -233,6 +233,13 @@ impl Db {
         }
     }
 
+    /// The handle that the next new one will be. Takes no memory.
+    pub fn next(&self) -> Handle
+        ensures { result ≡ self.now.next }
+    {
+        self.next
+    }
+
     /// Whether there is no room for a new handle: whether as many handles are live as may be, or the next
     /// handle number is `HANDLE_NUMBER_END`. Takes no memory.
     pub fn is_full(&self) -> bool

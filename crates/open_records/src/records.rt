@@ -257,6 +257,23 @@ impl Records {
         verdict_of(strong_among(mine), equal_among(mine, &rec), agent, attr)
     }
 
+    /// Whether an open by an agent for a controller would be a record more than there may be: the error
+    /// `Full` of `add`. Takes no memory.
+    pub fn is_full(
+        &self,
+        handle: Handle,
+        guid: Guid,
+        agent: u64,
+        controller: u64,
+        attr: Attr,
+    ) -> bool
+        ensures { result ≡ is_full handle guid agent controller attr self.now }
+    {
+        let mine = of_interface(self.entries.as_slice(), handle, guid);
+        let rec = Rec::first(agent, controller, attr);
+        !equal_among(mine, &rec) && self.entries.len() >= self.limit as usize
+    }
+
     /// The children of a handle: the controllers, except 0, of the BY_CHILD_CONTROLLER records on it, of
     /// `agent` if it is given. Each is listed once, by the handle's interfaces in order of installation,
     /// then by their records in order of their making.

@@ -7,4 +7,5 @@ pub mod Indexed
 pub mod BoardAnswers
 pub mod Spaces
 pub mod Ways
+pub mod Below
 pub mod Laws

@@ -1,5 +1,6 @@
 ghost use Rattle.std.specs.Prelude.{◌≡◌, ◌+◌, [], true, None, IfOk, IsTrue, is_ok, length, option_copied, if◌then◌else◌};
 ghost use Rattle.byteorder.specs.Endian.{little_bytes};
+ghost use Rattle.pci_model.specs.Below.{first_bus, functions_below};
 ghost use Rattle.pci_model.specs.BoardAnswers.{GivesBoard};
 ghost use Rattle.pci_model.specs.BoardLines.{find_at, functions, functions_on, location_of, rom_name_of, roots, secondary_of};
 ghost use Rattle.pci_model.specs.BoardRules.{board_fault};
@@ -8,6 +9,7 @@ ghost use Rattle.pci_model.specs.Ways.{bridge_to};
 ghost use Rattle.pci_model.specs.Devices.{IsSound, bar_read, bar_refusal, bar_written, board_of, config_read, config_refusal, config_written, ok_unless, is_access};
 
 use crate::access::{device_at, is_past, low_bytes, number_at, write_bar, write_config};
+use crate::below::{add_below, first_bus_within};
 use crate::device::Device;
 use crate::fault::BoardFault;
 use crate::function::{Function, Location};
@@ -187,6 +189,28 @@ impl Board {
             }
         }
         Ok(numbers)
+    }
+
+    /// The functions on a bus and below it: those on the bus by device number, then by function
+    /// number, each bridge followed by those on its own bus and below that.
+    ///
+    /// # Errors
+    ///
+    /// `OutOfMemory` if there is no memory for the list.
+    pub fn functions_below(&self, alloc: Global, bus: u8) -> Result<Vec<u32>, OutOfMemory>
+        ensures { IfOk result (λ numbers. numbers.items ≡ functions_below self.now.lines bus) }
+    {
+        let mut numbers = Vec::new(alloc);
+        add_below(&mut numbers, alloc, self, self.functions(), bus)?;
+        Ok(numbers)
+    }
+
+    /// The bus on which the way to function `f` begins: that of a root bridge. `None` exactly if
+    /// there is no such function. Takes no memory.
+    pub fn first_bus(&self, f: u32) -> Option<u8>
+        ensures { result ≡ first_bus self.now.lines f }
+    {
+        first_bus_within(self, self.functions(), f)
     }
 
     /// The number in `n` bytes of configuration space of function `f` from `at` on, lowest byte

@@ -9,6 +9,7 @@
 #![tactic(auto)]
 
 mod access;
+mod below;
 mod board;
 mod config_space;
 mod device;
