@@ -1,15 +1,15 @@
 -- The load of a file: one image, or the images of an option ROM, in order (UEFI 2.8, 14.4.2 'PCI Option
 -- ROMs').
-use Rattle.std.specs.Prelude.{ℕ, List, [], ◌∷◌, ◌++◌, Bool, true, false, ◌&&◌, ◌||◌, nat_eq, Some, None, unwrap_or, if◌then◌else◌}
+use Rattle.std.specs.Prelude.{ℕ, List, [], ◌∷◌, ◌++◌, Bool, true, false, ◌||◌, nat_eq, Some, None, unwrap_or, if◌then◌else◌}
 use Rattle.std.specs.List.{starts_with}
 use Rattle.fw_types.specs.declared.status.Status.{Status}
 use Rattle.fw_types.specs.declared.status.TheConstants.Status.{SUCCESS, UNSUPPORTED}
-use Rattle.fw_types.specs.declared.image.TheConstants.{EFI_CODE, MACHINE_EBC}
 use Rattle.fw_types.specs.declared.image.ImageNote.{ImageNote}
 use Rattle.fw_types.specs.declared.image.ImageNote.TheVariants.{Loaded, Failed, Refused, Compressed, Skipped}
 use Rattle.option_rom.specs.RomGrammar.{Image}
 use Rattle.world_model.specs.World.{State}
 use Rattle.driver_model.specs.ImageLife.{Load}
+use Rattle.driver_model.specs.RomDrivers.{is_driver}
 use Rattle.bind_engine.specs.declared.rom_load.RomTally.{RomTally}
 use Rattle.driver_model.specs.declared.settings.Settings.{Settings}
 use Rattle.bind_engine.specs.Levels.{loaded}
@@ -47,10 +47,6 @@ abbrev pub with_driver : Settings → List ℕ → RomTally × State → RomTall
 with_driver settings file (tally, w) =
     let load : Load State = loaded settings file w in
     (with_load load.note load.status tally, load.world)
-
--- whether an image has an EBC driver: the code type of EFI and the machine of EBC
-abbrev pub is_driver : Image → Bool
-is_driver image = nat_eq image.code_type EFI_CODE && nat_eq image.machine MACHINE_EBC
 
 -- a driver that is not compressed is loaded; one that is compressed, and any other image, is only noted
 abbrev pub with_image : Settings → Image → RomTally × State → RomTally × State

@@ -4,7 +4,8 @@ ghost use Rattle.option_rom.specs.RomGrammar.{rom_in};
 ghost use Rattle.driver_model.specs.Spending.{Spends};
 ghost use Rattle.bind_engine.specs.Levels.{loaded};
 ghost use Rattle.bind_engine.specs.Machine.{IsIdle};
-ghost use Rattle.bind_engine.specs.RomLoad.{is_driver, is_loaded, is_rom, no_images, rom_status, with_driver, with_image, with_images, with_load, with_note};
+ghost use Rattle.driver_model.specs.RomDrivers.{is_driver};
+ghost use Rattle.bind_engine.specs.RomLoad.{is_loaded, is_rom, no_images, rom_status, with_driver, with_image, with_images, with_load, with_note};
 
 use crate::levels::{FIRST_ROOM, OUTSIDE};
 use driver_model::Settings;

@@ -3,3 +3,5 @@ pub mod LiveHandles
 pub mod Slots
 pub mod Records
 pub mod Removable
+pub mod BusChildren
+pub mod BusStarts

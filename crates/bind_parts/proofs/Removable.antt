@@ -1,7 +1,9 @@
 -- An interface that is there can be removed.
 use Rattle.std.proofs.Common.{◌≡◌, ℕ, Bool, true, false, not, List, find, refl}
-use Rattle.std.specs.Prelude.{nat_eq, Option, Some, None, option_map, is_ok, is_some, Err, if◌then◌else◌}
-use Rattle.std.proofs.lemmas.Bool.{and_parts}
+use Rattle.std.specs.Prelude.{bytes_eq, nat_eq, Option, Some, None, option_map, is_ok, is_some, Err, if◌then◌else◌}
+use Rattle.std.proofs.lemmas.Bool.{and_parts, not-true, or_parts}
+use Rattle.fw_types.specs.Guid.{known_guid}
+use Rattle.fw_types.specs.declared.guid.Known.TheVariants.{DriverBinding, LoadedImage}
 use Rattle.handle_db.specs.Database.{interface_of, interfaces_in, interfaces_of, is_guid, is_handle, is_live}
 use Rattle.handle_db.specs.Removing.{removal_of}
 use Rattle.handle_db.specs.declared.handle_entry.HandleEntry.{HandleEntry}
@@ -12,7 +14,11 @@ use Rattle.world_model.specs.World.{Soft}
 use Rattle.world_model.specs.Interfaces.{firmware, is_lasting, uninstall_answer, without_value}
 use Rattle.world_model.specs.Kept.{IsKept}
 use Rattle.service_model.specs.Allowed.{ImagesDoNotLast, is_of_image}
-use Rattle.driver_model.specs.UninstallWithReconnection.{ADriver, is_still_there}
+use Rattle.service_model.specs.declared.call.HandleInterface.{HandleInterface}
+use Rattle.driver_model.specs.Allowed.{has_lasting_interfaces, may_go}
+use Rattle.driver_model.specs.UninstallWithReconnection.{is_still_there}
+use Rattle.driver_model.specs.declared.request.Remover.{Remover}
+use Rattle.driver_model.specs.declared.request.Remover.TheVariants.{TheFirmware, ADriver}
 
 -- a handle that is not there has no interface
 none_there : (entry : Option HandleEntry) (guid : List ℕ) → entry ≡ None → is_some {T = ℕ × ℕ} (option_map (λ (one : Interface). (one.interface, one.owner)) (find (is_guid guid) (interfaces_in entry))) ≡ true → ⊥
@@ -37,10 +43,22 @@ of_image : (found : Option (ℕ × ℕ)) (interface : ℕ) → is_still_there AD
 of_image None interface still = absurd cc
 of_image (Some found) interface still = (refl, (and_parts (nat_eq found.0 interface) (not (nat_eq found.1 firmware)) still).1)
 
-pub clears : (handle : ℕ) (guid : List ℕ) (interface : ℕ) (soft : Soft) → is_still_there ADriver interface (interface_of handle guid soft.database) ≡ true
-    → is_ok (uninstall_answer handle guid soft) ≡ true
-clears handle guid interface soft still = removable handle guid soft (of_image (interface_of handle guid soft.database) interface still).0
+is_there : (remover : Remover) (found : Option (ℕ × ℕ)) (interface : ℕ) → is_still_there remover interface found ≡ true → is_some found ≡ true
+is_there TheFirmware None interface still = absurd cc
+is_there ADriver None interface still = absurd cc
+is_there remover (Some found) interface still = refl
 
-pub is_gone : ImagesDoNotLast → (handle : ℕ) (guid : List ℕ) (interface : ℕ) (soft : Soft) → IsKept soft → is_still_there ADriver interface (interface_of handle guid soft.database) ≡ true
-    → is_lasting handle guid soft ≡ false
-is_gone law handle guid interface soft kept still = law soft handle guid kept (of_image (interface_of handle guid soft.database) interface still).1
+pub clears : (remover : Remover) (handle : ℕ) (guid : List ℕ) (interface : ℕ) (soft : Soft) → is_still_there remover interface (interface_of handle guid soft.database) ≡ true
+    → is_ok (uninstall_answer handle guid soft) ≡ true
+clears remover handle guid interface soft still = removable handle guid soft (is_there remover (interface_of handle guid soft.database) interface still)
+
+-- an interface lasts only if its protocol has lasting interfaces
+not_lasting : (handle : ℕ) (guid : List ℕ) (soft : Soft) → not (has_lasting_interfaces guid) ≡ true → is_lasting handle guid soft ≡ false
+not_lasting handle guid soft may =
+    let parts = or_parts (bytes_eq guid (known_guid LoadedImage)) (bytes_eq guid (known_guid DriverBinding)) (not-true (has_lasting_interfaces guid) may) in
+    rw (parts.0, parts.1) refl
+
+pub is_gone : ImagesDoNotLast → (remover : Remover) (i : HandleInterface) (soft : Soft) → IsKept soft → may_go remover i ≡ true
+    → is_still_there remover i.interface (interface_of i.handle i.guid soft.database) ≡ true → is_lasting i.handle i.guid soft ≡ false
+is_gone law TheFirmware i soft kept may still = not_lasting i.handle i.guid soft may
+is_gone law ADriver i soft kept may still = law soft i.handle i.guid kept (of_image (interface_of i.handle i.guid soft.database) i.interface still).1

@@ -2,7 +2,7 @@
 ghost use Rattle.std.specs.Prelude.{◌≡◌, None};
 ghost use Rattle.world_model.specs.Thunks.{thunk_at};
 ghost use Rattle.driver_model.specs.Activations.{is_success};
-ghost use Rattle.driver_model.specs.DriverCall.{allowance, bus_function, code_by, code_of as code_value, commits, event_kind, is_address, is_bus_address, is_bus_driver_call, outcome_of};
+ghost use Rattle.driver_model.specs.DriverCall.{allowance, bus_code, code_by, code_of as code_value, commits, event_kind, is_bus_driver_call, outcome_of};
 
 use driver_model::{Call, CallKind, Code, RunEnd, Settings};
 use fw_types::{EventKind, Handle, Outcome, Status};
@@ -29,54 +29,39 @@ pub fn event_kind(kind: CallKind) -> EventKind
     }
 }
 
-/// The bus driver's function of a kind.
-fn bus_function(kind: CallKind) -> Option<u64>
-    ensures { result ≡ bus_function kind }
+/// The function of the bus driver at an address, if there is one.
+fn bus_code(at: u64) -> Option<Code>
+    ensures { result ≡ bus_code at }
 {
-    match kind {
-        CallKind::Supported => Some(BUS_SUPPORTED),
-        CallKind::Start => Some(BUS_START),
-        CallKind::Stop => Some(BUS_STOP),
-        CallKind::Entry | CallKind::Unload => None,
+    match at {
+        BUS_SUPPORTED => Some(Code::BusSupported),
+        BUS_START => Some(Code::BusStart),
+        BUS_STOP => Some(Code::BusStop),
+        _ => None,
     }
 }
 
-/// Whether an address is this one, if one is given.
-fn is_address(at: u64, address: Option<u64>) -> bool
-    ensures { result ≡ is_address at address }
-{
-    match address {
-        Some(address) => at == address,
-        None => false,
-    }
-}
-
-/// Whether the bus driver's function of the kind is called by its own binding.
+/// Whether the bus driver is called by its own binding.
 fn is_bus_driver_call(call: &Call) -> bool
     ensures { result ≡ is_bus_driver_call call.now }
 {
-    call.driver == Handle::bus_driver().get()
-        && call.binding == BUS_BINDING
-        && is_address(call.address, bus_function(call.kind))
+    call.driver == Handle::bus_driver().get() && call.binding == BUS_BINDING
 }
 
-/// Whether a function of a driver binding of the bus driver is at an address.
-fn is_bus_address(at: u64) -> bool
-    ensures { result ≡ is_bus_address at }
-{
-    matches!(at, BUS_SUPPORTED | BUS_START | BUS_STOP)
-}
-
-/// What is entered at an address behind which there is no thunk.
+/// What is entered at an address behind which there is no thunk. A function of the bus driver is its
+/// own only by its own binding.
 fn native_code(call: &Call) -> Code
     ensures { result ≡ code_by None call.now }
 {
+    let Some(code) = bus_code(call.address) else {
+        return Code::NoCode;
+    };
     if is_bus_driver_call(call) {
-        Code::BusDriver
-    } else if call.binding != 0 && is_bus_address(call.address) {
-        Code::Foreign
-    } else {
+        code
+    } else if call.binding == 0 {
         Code::NoCode
+    } else {
+        Code::Foreign
     }
 }
 

@@ -6,7 +6,6 @@ ghost use Rattle.driver_model.specs.StopOrder.{children_of};
 
 use fw_types::{Handle, OutOfMemory};
 use fw_world::World;
-use std::alloc::Global;
 use world_model::laws::children_are_few;
 
 /// The live handle with this number, if there is one.
@@ -37,19 +36,4 @@ pub fn children_of(
     children_are_few();
     world.is_kept();
     world.entries().children_of(world.db(), controller, agent)
-}
-
-/// The numbers of handles, in their order.
-///
-/// # Errors
-///
-/// `OutOfMemory` if there is no memory for the list.
-pub fn numbers_of(alloc: Global, handles: &[Handle]) -> Result<Vec<u64>, OutOfMemory>
-    ensures { IfOk result (λ numbers. numbers.items ≡ handles.now) }
-{
-    let mut numbers = Vec::new(alloc);
-    for handle in handles {
-        numbers.push(handle.get())?;
-    }
-    Ok(numbers)
 }

@@ -1,13 +1,15 @@
-//! What the uninstall of an interface looks at and removes, for a driver (UEFI 2.8, 7.3:
+//! What the uninstall of an interface looks at and removes (UEFI 2.8, 7.3:
 //! UninstallProtocolInterface and UninstallMultipleProtocolInterfaces).
 ghost use Rattle.std.specs.Prelude.{◌≡◌, ◌<◌, IfOk, IfSome, None, OnOk, Some, false, find, if◌then◌else◌, is_ok, option_map, true};
 ghost use Rattle.open_records.specs.Managing.{is_managing};
 ghost use Rattle.open_records.specs.declared.open_record.Rec.{Rec as RecValue};
 ghost use Rattle.world_model.specs.Interfaces.{is_lasting, uninstall_answer};
 ghost use Rattle.world_model.specs.Marks.{depth, marked_stacks, older_marks, put_back, stacks};
+ghost use Rattle.driver_model.specs.Allowed.{may_go};
 ghost use Rattle.driver_model.specs.Moves.{changed, plain, uninstalls};
-ghost use Rattle.driver_model.specs.UninstallWithReconnection.{ADriver, all_or_none, interface_on, is_first_there, is_kept_from, is_still_there, manager_on};
+ghost use Rattle.driver_model.specs.UninstallWithReconnection.{all_or_none, interface_on, is_first_there, is_kept_from, is_still_there, manager_on};
 
+use driver_model::Remover;
 use fw_types::{Attr, Guid, Handle, OutOfMemory, Status};
 use fw_world::{Mark, World};
 use handle_db::DbRefusal;
@@ -15,40 +17,53 @@ use open_records::Rec;
 use service_model::HandleInterface;
 use service_model::laws::images_do_not_last;
 
-/// Whether the handle has the interface, whoever owns it.
-pub fn is_first_there(world: &World, i: &HandleInterface) -> bool
-    ensures { result ≡ is_first_there ADriver i.now.interface (interface_on i.now world.now.now.soft) }
+/// Whether the handle has the interface. For the firmware, one of another owner is not there.
+pub fn is_first_there(world: &World, remover: Remover, i: &HandleInterface) -> bool
+    ensures { result ≡
+        is_first_there remover i.now.interface (interface_on i.now world.now.now.soft) }
 {
-    match world.db().interface(i.handle, i.guid) {
-        None => false,
-        Some((address, _)) => address == i.interface,
+    let Some((address, owner)) = world.db().interface(i.handle, i.guid) else {
+        return false;
+    };
+    match remover {
+        Remover::TheFirmware => address == i.interface && owner == Handle::firmware(),
+        Remover::ADriver => address == i.interface,
     }
 }
 
-/// Whether the firmware owns the interface, so that no driver may uninstall it.
-pub fn is_kept_from_drivers(world: &World, i: &HandleInterface) -> bool
-    ensures { result ≡ is_kept_from ADriver (interface_on i.now world.now.now.soft) }
+/// Whether the firmware owns the interface, and a driver asks, so that it may not go.
+pub fn is_kept_from(world: &World, remover: Remover, i: &HandleInterface) -> bool
+    ensures { result ≡ is_kept_from remover (interface_on i.now world.now.now.soft) }
 {
-    match world.db().interface(i.handle, i.guid) {
-        None => false,
-        Some((_, owner)) => owner == Handle::firmware(),
+    let Some((_, owner)) = world.db().interface(i.handle, i.guid) else {
+        return false;
+    };
+    match remover {
+        Remover::TheFirmware => false,
+        Remover::ADriver => owner == Handle::firmware(),
     }
 }
 
-/// Whether the handle still has the interface, and the firmware does not own it.
-fn is_still_there(world: &World, i: &HandleInterface) -> bool
-    ensures { result ≡ is_still_there ADriver i.now.interface (interface_on i.now world.now.now.soft) }
+/// Whether the handle still has the interface, and it is the remover's to uninstall.
+fn is_still_there(world: &World, remover: Remover, i: &HandleInterface) -> bool
+    ensures { result ≡
+        is_still_there remover i.now.interface (interface_on i.now world.now.now.soft) }
 {
-    match world.db().interface(i.handle, i.guid) {
-        None => false,
-        Some((address, owner)) => address == i.interface && owner != Handle::firmware(),
+    let Some((address, owner)) = world.db().interface(i.handle, i.guid) else {
+        return false;
+    };
+    match remover {
+        Remover::TheFirmware => address == i.interface && owner == Handle::firmware(),
+        Remover::ADriver => address == i.interface && owner != Handle::firmware(),
     }
 }
 
-/// The handle of the interface, if it still has it, and the firmware does not own it.
-pub fn handle_to_clear(world: &World, i: &HandleInterface) -> Option<Handle>
+/// The handle of the interface, if it still has it, and it is the remover's to uninstall. The
+/// firmware uninstalls none of a protocol that has lasting interfaces.
+pub fn handle_to_clear(world: &World, remover: Remover, i: &HandleInterface) -> Option<Handle>
+    requires { may_go remover i.now ≡ true }
     ensures there { result ≡
-        (if is_still_there ADriver i.now.interface (interface_on i.now world.now.now.soft)
+        (if is_still_there remover i.now.interface (interface_on i.now world.now.now.soft)
         then Some i.now.handle else None) }
     ensures same { IfSome result (λ handle. i.now.handle ≡ handle) }
     ensures lasting { IfSome result (λ handle.
@@ -58,7 +73,7 @@ pub fn handle_to_clear(world: &World, i: &HandleInterface) -> Option<Handle>
 {
     images_do_not_last();
     world.is_kept();
-    if is_still_there(world, i) {
+    if is_still_there(world, remover, i) {
         Some(i.handle)
     } else {
         None

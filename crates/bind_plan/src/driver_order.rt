@@ -1,11 +1,12 @@
 //! The order in which drivers are asked for a controller.
 ghost use Rattle.std.specs.Prelude.{◌≡◌, ◌++◌, not, nat_eq, true, filter, flat_map, IfOk, OnOk};
 ghost use Rattle.driver_model.specs.Bindings.{all_bindings as all_bindings_value};
-ghost use Rattle.driver_model.specs.DriverOrder.{by_version, drivers_by, first_places as first_places_value, order as order_value};
+ghost use Rattle.driver_model.specs.DriverOrder.{bus_group, by_version, drivers_by, first_places as first_places_value, order as order_value};
 ghost use Rattle.driver_model.specs.OrderLaws.{chosen_first as chosen_first_value, is_among as is_among_value, is_by_handle};
 ghost use Rattle.driver_model.specs.declared.binding.BindingBlock.{BindingBlock as BlockValue};
 
 use crate::bindings::{all_bindings, binding, bindings_of};
+use crate::numbers::numbers_of;
 use driver_model::BindingBlock;
 use driver_model::order_laws::{lists_of_drivers, order_of_drivers};
 use fw_types::{Handle, OutOfMemory};
@@ -21,7 +22,8 @@ use std::cmp::Reverse;
 /// if its binding can be read (`binding`).
 ///
 /// A handle in `platform` that has no binding means the drivers of which it is the ImageHandle, by rising
-/// handle; one in `context` means none. No controller has a list of a bus specific driver override yet.
+/// handle; one in `context` means none. The bus specific driver override's list is that of the function of
+/// which the controller is a child (`World::bus_list`), and a handle in it means what it means in `platform`.
 ///
 /// # Errors
 ///
@@ -60,7 +62,25 @@ fn chosen_first(
     let mut groups = bindings_of(world, context)?;
     let platform_group = drivers_of(world, platform, all)?;
     groups.extend_from_slice(platform_group.as_slice())?;
+    let bus_group = bus_drivers_of(world, controller, all)?;
+    groups.extend_from_slice(bus_group.as_slice())?;
     first_places(world.alloc(), groups.as_slice())
+}
+
+/// The drivers of the bus specific driver override for a controller: none if it is no child of the bus.
+fn bus_drivers_of(
+    world: &World,
+    controller: Handle,
+    all: &[BindingBlock],
+) -> Result<Vec<BindingBlock>, OutOfMemory>
+    requires { all.now ≡ all_bindings_value world.now.now.soft }
+    ensures { IfOk result (λ blocks. blocks.items ≡ bus_group controller world.now.now.soft) }
+{
+    let Some(function) = world.child_function(controller.get()) else {
+        return Ok(Vec::new(world.alloc()));
+    };
+    let images = numbers_of(world.alloc(), world.bus_list(function))?;
+    drivers_of(world, images.as_slice(), all)
 }
 
 /// The drivers that the handles of a list mean.

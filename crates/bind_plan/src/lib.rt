@@ -3,17 +3,19 @@
 //!
 //! `bindings` reads driver bindings out of guest memory. `driver_order` has the order in which
 //! ConnectController asks drivers whether they support a controller, and `stop_order` the list of drivers
-//! that DisconnectController stops. No call changes the world, and each answers what the definitions of
+//! that DisconnectController stops; `numbers` has handles as numbers. No call changes the world, and each answers what the definitions of
 //! `driver_model` say: `specs/Bindings.antt`, `DriverOrder.antt` and `StopOrder.antt`.
 #![tactic(auto)]
 
 mod bindings;
 mod driver_order;
+mod numbers;
 mod stop_order;
 
 pub use bindings::binding;
 pub use driver_model::BindingBlock;
 pub use driver_order::order;
+pub use numbers::numbers_of;
 pub use stop_order::stop_list;
 
 #[cfg(test)]

@@ -2,7 +2,7 @@ use crate::{BindingBlock, binding, order, stop_list};
 use fw_types::{Attr, Guid, Handle, Known, put_u32, put_u64};
 use fw_world::World;
 use guest_memory::SegKind;
-use pci_model::Board;
+use pci_model::{Board, BoardLine, board_from};
 use std::alloc::{AllocError, Global};
 use std::process::Abort;
 use std::test::Fail;
@@ -106,6 +106,85 @@ fn drivers_in_order(rt: HostRuntime) -> Result<(), Fail> {
             "at {context:?} and {platform:?}"
         );
     }
+    Ok(())
+}
+
+/// A world with a root bridge, handle 3, and a child of it, 4, for function 0; with the drivers 5 and 6 of
+/// Version 0x10 and 7 of Version 0x20. The first two are of image 8, the third is of 9.
+fn with_child(rt: &(impl AllocGlobal + Abort)) -> Result<World, Fail> {
+    let lines = [
+        BoardLine::Root { uid: 0, bus: 0 },
+        BoardLine::Func {
+            bus: 0,
+            device: 3,
+            function: 0,
+            vendor: 0x8086,
+            id: 0x100E,
+            class: 0x02_0000,
+        },
+    ];
+    let board = board_from(rt.alloc(), &lines)?;
+    let mut roms = Vec::new(rt.alloc());
+    roms.push(None)?;
+    assert!(rt; roms.len() == board.functions() as usize);
+    let mut world = World::new(rt.alloc(), board, roms)?;
+    let pci_io = Guid::known(Known::PciIo);
+    let child = world.install(None, pci_io, 0, Handle::firmware())?;
+    assert!(rt; world.child_function(child.get()).is_none());
+    world.note_child(child, 0)?;
+    for (version, image) in [(0x10, 8), (0x10, 8), (0x20, 9)] {
+        let _ = add_driver(&mut world, version, image)?;
+    }
+    Ok(world)
+}
+
+/// Handles by their numbers, which are not 0.
+fn all_numbered(rt: &(impl AllocGlobal + Abort), numbers: &[u64]) -> Result<Vec<Handle>, Fail> {
+    let mut handles = Vec::new(rt.alloc());
+    for number in numbers {
+        handles.push(numbered(rt, *number))?;
+    }
+    Ok(handles)
+}
+
+/// A context, a platform list and a bus list, and the handles of the drivers in their order.
+type BusRow = (
+    &'static [u64],
+    &'static [u64],
+    &'static [u64],
+    &'static [u64],
+);
+
+const BUS_ROWS: [BusRow; 7] = [
+    (&[], &[], &[], &[7, 5, 6, 2]),
+    // an image means its drivers
+    (&[], &[], &[8], &[5, 6, 7, 2]),
+    (&[], &[], &[6], &[6, 7, 5, 2]),
+    // an image that has gone means nothing
+    (&[], &[], &[77, 5], &[5, 7, 6, 2]),
+    // the bus list comes after the context and the platform list
+    (&[], &[6], &[5], &[6, 5, 7, 2]),
+    (&[2], &[], &[8], &[2, 5, 6, 7]),
+    (&[6], &[2], &[8], &[6, 2, 5, 7]),
+];
+
+/// The bus list is that of the child alone, and the order for the root bridge has none.
+#[test]
+fn drivers_of_a_child(rt: HostRuntime) -> Result<(), Fail> {
+    let mut world = with_child(&rt)?;
+    let (root, child) = (numbered(&rt, 3), numbered(&rt, 4));
+    for (context, platform, bus, wanted) in BUS_ROWS {
+        world.set_bus_list(0, all_numbered(&rt, bus)?)?;
+        let handles: Vec<u64> = order(&world, child, context, platform)?
+            .iter()
+            .map(|block| block.handle.get())
+            .collect(rt.alloc())?;
+        assert_eq!(rt; handles.as_slice(), wanted, "at {bus:?}");
+    }
+    let first = order(&world, root, &[], &[])?
+        .first()
+        .map(|block| block.handle.get());
+    assert_eq!(rt; first, Some(7));
     Ok(())
 }
 

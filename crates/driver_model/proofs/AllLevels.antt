@@ -4,7 +4,8 @@ use Rattle.fw_types.specs.declared.limits.TheConstants.{MOST_LEVELS}
 use Rattle.driver_model.specs.Moves.{Operations}
 use Rattle.driver_model.specs.Levels.{below, level_over, level_with}
 use Rattle.driver_model.specs.declared.settings.Settings.{Settings}
-use Rattle.driver_model.proofs.Keeping.{Keeps, KeepsBelow, KeepsMoves, below_keeps, over_keeps}
+use Rattle.driver_model.proofs.Keeping.{Keeps, KeepsBelow, KeepsMoves}
+use Rattle.driver_model.proofs.KeepingCalls.{below_keeps, over_keeps}
 
 module _ {S : Type 0} (o : Operations S) (is_listable : List ℕ → Bool) (R : (level : ℕ) → S → S → Type 0) (kept : KeepsMoves o is_listable R) (settings : Settings) (room : ℕ) where
   -- all levels below one that has so many below it

@@ -22,7 +22,7 @@ use Rattle.driver_model.specs.declared.call.Call.{Call}
 use Rattle.driver_model.specs.declared.call.CallKind.{CallKind}
 use Rattle.driver_model.specs.declared.call.Scope.{Scope}
 use Rattle.driver_model.specs.declared.settings.Settings.{Settings}
-use Rattle.driver_model.proofs.Keeping.{entered_keeps}
+use Rattle.driver_model.proofs.KeepingCalls.{entered_keeps}
 use Rattle.driver_model.proofs.Spending.{SpendsAt, any_list, below_spends, spending_kept}
 
 -- what a call gives, by whether its price is more than it may spend

@@ -48,7 +48,7 @@ disconnects_are_chains settings room scope d w le =
 
 pub loads_are_chains : LoadsAreChains
 loads_are_chains settings room scope file device w lt =
-    load_keeps plain any_list ChainAt chains_kept each_move (level_with (suc room)) (level_over plain settings (level_with room) (below plain settings room))
+    load_keeps plain any_list ChainAt chains_kept (level_with (suc room)) (level_over plain settings (level_with room) (below plain settings room))
     (level_itself plain any_list ChainAt chains_kept settings room lt) scope file device w
 
 pub unloads_are_chains : UnloadsAreChains

@@ -31,7 +31,8 @@ use Rattle.driver_model.specs.declared.call.RunEnd.{RunEnd}
 use Rattle.driver_model.specs.declared.call.Scope.{Scope}
 use Rattle.driver_model.specs.declared.request.Connection.{Connection}
 use Rattle.driver_model.specs.declared.settings.Settings.{Settings}
-use Rattle.driver_model.proofs.Keeping.{Keeps, KeepsBelow, choose, entered_keeps, over_keeps, stepped_keeps}
+use Rattle.driver_model.proofs.Keeping.{Keeps, KeepsBelow, choose, stepped_keeps}
+use Rattle.driver_model.proofs.KeepingCalls.{entered_keeps, over_keeps}
 use Rattle.driver_model.proofs.Spending.{SpendsAt, any_list, below_spends, spending_kept}
 
 module _ (events_stay : EventsStay) (units_fall : UnitsNeverRise) (looks : SpendsNothing) (s : Settings) (b : Option (Level State)) (level : ℕ) (spends : KeepsBelow any_list SpendsAt level b) (scope : Scope) (place : ℕ) where

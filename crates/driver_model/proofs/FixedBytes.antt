@@ -58,6 +58,13 @@ pub pass_mapped : (test : Segment → Bool) (new : Segment) (segments : List Seg
 pass_mapped test new segments one all =
     rw (list_all-mapped (if_fixed test) new segments) (and_from (if_fixed test new) (list_all (if_fixed test) segments) one all)
 
+-- what passes a test passes it as what no code may write, or as a later block
+pub pass_later : (old : Soft) (test : Segment → Bool) (segments : List Segment) → list_all (if_fixed test) segments ≡ true
+    → list_all (if_fixed (λ (segment : Segment). test segment || is_later_block old segment)) segments ≡ true
+pass_later old test segments all =
+    pass_wider test (λ (segment : Segment). test segment || is_later_block old segment) segments
+    (λ segment is. or_first (test segment) (is_later_block old segment) is) all
+
 -- ---- changes of memory
 
 -- the same segments are there that no code may write

@@ -15,7 +15,7 @@ use Rattle.driver_model.specs.Unloading.{handler_of, unload_call}
 use Rattle.driver_model.specs.declared.call.Scope.{Scope}
 use Rattle.driver_model.specs.declared.settings.Settings.{Settings}
 use Rattle.driver_model.proofs.Levels.{calls_stay, unloads_stay}
-use Rattle.driver_model.proofs.SameImages.{calls_leave_images}
+use Rattle.driver_model.proofs.LoadedImages.{calls_unload_none}
 use Rattle.driver_model.proofs.Unloads.{unloads_that_succeed_sweep}
 use Rattle.driver_model.proofs.WhatSweepsLeave.{sweeps_leave_others, swept_images_are_gone}
 
@@ -35,7 +35,7 @@ handled_and_swept settings room scope image w lt can found is =
     let call = unload_call image.handle (handler_of image w.soft) in
     record {
       kept = (calls_stay settings room scope call [] w lt refl refl can).kept;
-      loaded = ap (image_of image.handle) (calls_leave_images settings room scope call [] w lt refl refl can) ∙ found;
+      loaded = calls_unload_none settings room scope call [] image.handle image w lt refl refl can found;
       swept = subst (λ (one : LoadedImage). (left_by_unload settings room scope image.handle w).soft ≡ image_swept one.handle (left_by_handler settings room scope one w).soft) same end.2;
     }
 

@@ -17,7 +17,7 @@ use Rattle.driver_model.specs.Level.{Level}
 use Rattle.driver_model.specs.ImageLife.{Load, accepted, entry_call, failure_of, image_loaded, kept_unless, laid_and_entered, laying_price, unless_refused}
 use Rattle.driver_model.specs.declared.call.Call.{Call}
 use Rattle.driver_model.specs.declared.call.Scope.{Scope}
-use Rattle.driver_model.proofs.Keeping.{Keeps, KeepsEachMove, KeepsMoves, choose, choose_by}
+use Rattle.driver_model.proofs.Keeping.{Keeps, KeepsMoves, choose, choose_by}
 
 -- the move that adds the image of a file
 abbrev adds_file : (file : List ℕ) → (device : ℕ) → State → Move
@@ -32,7 +32,7 @@ can_add file device w fine room =
     let test : nat_lt (entry_of file) (size_of file) ≡ true = grind (arith, nat_tests, inside) in
     rw size (and_from (nat_lt (entry_of file) (size_of file)) (not (is_image_full (size_of file) w.soft)) test (ap not room))
 
-module _ {S : Type 0} (o : Operations S) (is_listable : List ℕ → Bool) (R : (level : ℕ) → S → S → Type 0) (kept : KeepsMoves o is_listable R) (each : KeepsEachMove o R)
+module _ {S : Type 0} (o : Operations S) (is_listable : List ℕ → Bool) (R : (level : ℕ) → S → S → Type 0) (kept : KeepsMoves o is_listable R)
     (level : ℕ) (l : Level S) (k : Keeps is_listable R level l) (scope : Scope) (file : List ℕ) (device : ℕ) where
   -- an image whose entry point failed is taken away by an undo
   undone_keeps : (failure : Option Status) (image : ℕ) (w v : S) → R level w v → R level w (kept_unless o failure image (o.see w).soft v).world
@@ -46,12 +46,12 @@ module _ {S : Type 0} (o : Operations S) (is_listable : List ℕ → Bool) (R : 
       let r : Outcome × S = l.call scope call [] added in
       choose_by (λ (load : Load S). R level w load.world) (is_image_full (size_of file) (o.see w).soft) _ _ (λ full. kept.same level w)
       (λ room. undone_keeps (failure_of r.0) (o.see w).soft.database.next w r.1
-      (kept.joined level w added r.1 (each level (adds_file file device (o.see w)) w (can_add file device (o.see w) fine room)) (k.call scope call [] added refl kept.childless)))
+      (kept.joined level w added r.1 (kept.moves level (adds_file file device (o.see w)) w (can_add file device (o.see w) fine room)) (k.call scope call [] added refl kept.childless)))
 
   accepted_keeps : (w : S) → refusal_of file ≡ None → R level w (accepted o l scope file device w).world
   accepted_keeps w fine =
       choose (λ (load : Load S). R level w load.world) (nat_lt (o.see w).hard.units (laying_price file)) _ _ (kept.same level w)
-      (kept.joined level _ _ _ (each level (pays (laying_price file)) w refl) (laid_keeps _ fine))
+      (kept.joined level _ _ _ (kept.moves level (pays (laying_price file)) w refl) (laid_keeps _ fine))
 
   by_refusal : (refusal : Option PeRefusal) (w : S) → refusal_of file ≡ refusal → R level w (unless_refused o l scope file device refusal w).world
   by_refusal (Some refusal) w is = kept.same level w

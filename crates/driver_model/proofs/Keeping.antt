@@ -1,7 +1,8 @@
 -- What each single move keeps, every activation, driver call and run keeps, at all levels.
 use Rattle.std.proofs.Common.{◌≡◌, ◌<◌, subst, ℕ, ◌+◌, zero, suc, Bool, true, false, ◌&&◌, ◌||◌, not, nat_eq, nat_lt, List, [], ◌∷◌, Option, Some, None, refl, arith}
 use Rattle.std.specs.Prelude.{Result, Ok, Err, is_ok, is_some, ok_or, if◌then◌else◌}
-use Rattle.std.proofs.lemmas.Bool.{and_from, and_parts}
+use Rattle.std.specs.List.{list_all}
+use Rattle.std.proofs.lemmas.Bool.{and_from, and_parts, or_right}
 use Rattle.fw_types.specs.declared.event.Cause.{Cause}
 use Rattle.fw_types.specs.declared.event.Cause.TheVariants.{Align, Budget, Fetch, Memory}
 use Rattle.fw_types.specs.declared.event.EventKind.{EventKind}
@@ -37,7 +38,7 @@ use Rattle.service_model.specs.declared.call.Removal.{Removal}
 use Rattle.service_model.specs.declared.call.Served.{Served}
 use Rattle.service_model.specs.declared.call.Served.TheVariants as served_as
 use Rattle.driver_model.specs.Moves.{Move, Operations, changed, pays, caps, returns, begins_event, ends_event, steps, serves, looks_again, makes_thunk, pushes, pops, sets_tpl, puts_back, closes_all, closes_child, drops_weak, uninstalls}
-use Rattle.driver_model.specs.Allowed.{has_lasting_interfaces, has_sixteen, is_allowed, is_allowed_in_calls, is_of_images}
+use Rattle.driver_model.specs.Allowed.{has_lasting_interfaces, has_sixteen, is_allowed, is_allowed_in_calls, is_unload, may_go}
 use Rattle.driver_model.specs.Level.{Level}
 use Rattle.driver_model.specs.Turn.{Turn}
 use Rattle.driver_model.specs.StopOrder.{children_of}
@@ -45,7 +46,7 @@ use Rattle.driver_model.specs.Activations.{activation_begun, activation_ended, i
 use Rattle.driver_model.specs.Connect.{asked, child_connection, child_visited, children_visited, connect, connected, driver_call, found, recursive_number, searches, started, with_children}
 use Rattle.driver_model.specs.Disconnect.{after_children, after_itself, are_all, children_closed, children_stopped, children_to_stop, disconnect, disconnected, is_meaningless, is_of_another, itself_stopped, manages, stop_call, stop_turn, stop_turns, stopped_by, then_itself, turn_by}
 use Rattle.driver_model.specs.OpenWithRemoval.{after_removal, is_passed_on, removed}
-use Rattle.driver_model.specs.UninstallWithReconnection.{ADriver, Remover, TheFirmware, after_release, all_or_none, each_uninstalled, interface_on, is_first_there, is_kept_from, is_still_there, manager_on, many_uninstalled, records_on, released, taken_away, uninstalled, unless_open}
+use Rattle.driver_model.specs.UninstallWithReconnection.{after_release, all_or_none, each_uninstalled, interface_on, is_first_there, is_kept_from, is_still_there, manager_on, many_uninstalled, records_on, released, taken_away, uninstalled, unless_open}
 use Rattle.driver_model.specs.GoingOn.{gone_on, reentered}
 use Rattle.driver_model.specs.ThunkRequests.{◌>>◌, entry_from, is_even, must, requested_entry, thunk_by, thunk_for}
 use Rattle.driver_model.specs.NativeCalls.{callee, caller, native_called, passed_slots, returned, service_called, thunk_entered, thunk_returned}
@@ -59,13 +60,14 @@ use Rattle.driver_model.specs.declared.call.CallKind.TheVariants.{Supported, Sta
 use Rattle.driver_model.specs.declared.call.Callee.{Callee}
 use Rattle.driver_model.specs.declared.call.Callee.TheVariants.{AService, AThunk, Nothing}
 use Rattle.driver_model.specs.declared.call.Code.{Code}
-use Rattle.driver_model.specs.declared.call.Code.TheVariants.{Ebc, BusDriver, Foreign, NoCode}
 use Rattle.driver_model.specs.declared.call.RunEnd.{RunEnd}
 use Rattle.driver_model.specs.declared.call.RunEnd.TheVariants.{Over, Returned}
 use Rattle.driver_model.specs.declared.call.Scope.{Scope}
 use Rattle.driver_model.specs.declared.request.Connection.{Connection}
 use Rattle.driver_model.specs.declared.request.Disconnection.{Disconnection}
 use Rattle.driver_model.specs.declared.request.StopTurn.{StopTurn}
+use Rattle.driver_model.specs.declared.request.Remover.{Remover}
+use Rattle.driver_model.specs.declared.request.Remover.TheVariants.{TheFirmware, ADriver}
 use Rattle.driver_model.specs.declared.settings.Settings.{Settings}
 
 -- A relation between a machine and a later one, at a level, which each move keeps that can be made. Lists of
@@ -91,13 +93,13 @@ pub record KeepsMoves {S : Type 0} (o : Operations S) (is_listable : List ℕ �
   pub deeper : (level : ℕ) (w v : S) → R (suc level) w v → R level w v
   pub undone : (level : ℕ) (w v : S) → R level w v → R level w (o.make (puts_back (o.see w).soft) v)
 
--- each move that can be made keeps it, also those that add and drop images
+-- each move that can be made keeps it, also one that drops an image
 abbrev pub KeepsEachMove : {S : Type 0} → Operations S → ((level : ℕ) → S → S → Type 0) → Type 0
 KeepsEachMove {S} o R = (level : ℕ) (move : Move) (w : S) → is_allowed move (o.see w) ≡ true → R level w (o.make move w)
 
 -- what calls can do can be done
 pub allowed_in_calls : (move : Move) (w : State) → is_allowed_in_calls move w ≡ true → is_allowed move w ≡ true
-allowed_in_calls move w is = (and_parts (not (is_of_images move)) (is_allowed move w) is).1
+allowed_in_calls move w is = (and_parts (not (is_unload move)) (is_allowed move w) is).1
 
 -- all that is asked of the next level keeps it
 pub record Keeps {S : Type 0} (is_listable : List ℕ → Bool) (R : (level : ℕ) → S → S → Type 0) (level : ℕ) (l : Level S) : Type 0 where
@@ -117,11 +119,6 @@ choose P false x y h k = k
 pub choose_by : {A : Type 0} (P : A → Type 0) (b : Bool) (x y : A) → (b ≡ true → P x) → (b ≡ false → P y) → P (if b then x else y)
 choose_by P true x y h k = h refl
 choose_by P false x y h k = k refl
-
--- the firmware uninstalls no protocol that has lasting interfaces
-abbrev pub MayGo : Remover → List ℕ → Type 0
-MayGo TheFirmware guid = has_lasting_interfaces guid ≡ false
-MayGo ADriver guid = Unit {0}
 
 -- a thunk that is wanted can be stored, and enters an image
 wanted-tests : (e entry : ℕ) (soft : Soft) (even there : Bool) → is_some (image_at e soft) ≡ there
@@ -307,32 +304,32 @@ module _ {S : Type 0} (o : Operations S) (is_listable : List ℕ → Bool) (R : 
     taken_away_keeps i w can = unless_open_keeps i (records_on i (o.see w).soft) w can
 
     -- an interface of one's own can go, and so can it after weak records went
-    can_go : (remover : Remover) (interface : ℕ) (guid : List ℕ) (found : Option (ℕ × ℕ)) → MayGo remover guid → is_still_there remover interface found ≡ true
-        → (is_of_image found || not (has_lasting_interfaces guid)) ≡ true
-    can_go TheFirmware interface guid None may is = absurd cc
-    can_go ADriver interface guid None may is = absurd cc
-    can_go TheFirmware interface guid (Some found) may is = rw may (or_true (not (nat_eq found.1 firmware)))
-    can_go ADriver interface guid (Some found) may is =
-        let parts = and_parts (nat_eq found.0 interface) (not (nat_eq found.1 firmware)) is in
+    can_go : (remover : Remover) (i : HandleInterface) (found : Option (ℕ × ℕ)) → may_go remover i ≡ true → is_still_there remover i.interface found ≡ true
+        → (is_of_image found || not (has_lasting_interfaces i.guid)) ≡ true
+    can_go TheFirmware i None may is = absurd cc
+    can_go ADriver i None may is = absurd cc
+    can_go TheFirmware i (Some found) may is = or_right (not (nat_eq found.1 firmware)) (not (has_lasting_interfaces i.guid)) may
+    can_go ADriver i (Some found) may is =
+        let parts = and_parts (nat_eq found.0 i.interface) (not (nat_eq found.1 firmware)) is in
         rw parts.1 refl
 
     can_after : (i : HandleInterface) (w : S) → is_allowed (uninstalls i.handle i.guid) (o.see w) ≡ true → is_allowed (uninstalls i.handle i.guid) (o.see (o.make (drops_weak i.handle i.guid) w)) ≡ true
     can_after i w can = rw (kept.sees (drops_weak i.handle i.guid) w) can
 
-    after_release_keeps : (remover : Remover) (i : HandleInterface) → MayGo remover i.guid → (r : Status × S) → R level r.1 (after_release o settings b scope remover i r).1
+    after_release_keeps : (remover : Remover) (i : HandleInterface) → may_go remover i ≡ true → (r : Status × S) → R level r.1 (after_release o settings b scope remover i r).1
     unfolding after_release
     after_release_keeps remover i may r =
         choose (λ (x : Status × S). R level r.1 x.1) (is_passed_on r.0) _ _ (kept.same level r.1)
         (choose_by (λ (x : Status × S). R level r.1 x.1) (is_still_there remover i.interface (interface_on i (o.see r.1).soft)) _ _
         (λ still. kept.joined level _ _ _ (kept.moves level (drops_weak i.handle i.guid) r.1 refl)
-        (taken_away_keeps i _ (can_after i r.1 (can_go remover i.interface i.guid (interface_on i (o.see r.1).soft) may still))))
+        (taken_away_keeps i _ (can_after i r.1 (can_go remover i (interface_on i (o.see r.1).soft) may still))))
         (λ other. kept.same level r.1))
 
     released_keeps : (i : HandleInterface) (agent : Option ℕ) (w : S) → R level w (released o b scope i agent w).1
     released_keeps i None w = kept.same level w
     released_keeps i (Some agent) w = disconnect_keeps level b k scope (record { controller = i.handle; driver = agent; child = 0 }) w
 
-    pub uninstalled_keeps : (remover : Remover) (i : HandleInterface) → MayGo remover i.guid → (w : S) → R level w (uninstalled o settings b scope remover i w).1
+    pub uninstalled_keeps : (remover : Remover) (i : HandleInterface) → may_go remover i ≡ true → (w : S) → R level w (uninstalled o settings b scope remover i w).1
     unfolding uninstalled
     uninstalled_keeps remover i may w =
         choose (λ (x : Status × S). R level w x.1) (not (is_first_there remover i.interface (interface_on i (o.see w).soft))) _ _ (kept.same level w)
@@ -340,13 +337,20 @@ module _ {S : Type 0} (o : Operations S) (is_listable : List ℕ → Bool) (R : 
         (kept.joined level _ _ _ (released_keeps i (manager_on i (o.see w).soft) w)
         (after_release_keeps remover i may (released o b scope i (manager_on i (o.see w).soft) w))))
 
-    each_keeps : (interfaces : List HandleInterface) (w : S) → R level w (each_uninstalled o settings b scope interfaces w).1
+    pub each_keeps : (remover : Remover) (interfaces : List HandleInterface) (w : S) → list_all (may_go remover) interfaces ≡ true
+        → R level w (each_uninstalled o settings b scope remover interfaces w).1
     unfolding each_uninstalled
-    each_keeps [] w = kept.same level w
-    each_keeps (i ∷ interfaces) w =
-        let r : Status × S = uninstalled o settings b scope ADriver i w in
-        kept.joined level _ _ _ (uninstalled_keeps ADriver i tt w)
-        (choose (λ (x : Bool × S). R level r.1 x.1) (nat_eq r.0.0 SUCCESS.0) _ _ (each_keeps interfaces r.1) (kept.same level r.1))
+    each_keeps remover [] w may = kept.same level w
+    each_keeps remover (i ∷ interfaces) w may =
+        let parts = and_parts (may_go remover i) (list_all (may_go remover) interfaces) may in
+        let r : Status × S = uninstalled o settings b scope remover i w in
+        kept.joined level _ _ _ (uninstalled_keeps remover i parts.0 w)
+        (choose (λ (x : Bool × S). R level r.1 x.1) (nat_eq r.0.0 SUCCESS.0) _ _ (each_keeps remover interfaces r.1 parts.1) (kept.same level r.1))
+
+    -- a driver may uninstall whatever is its own
+    drivers_may : (interfaces : List HandleInterface) → list_all (may_go ADriver) interfaces ≡ true
+    drivers_may [] = refl
+    drivers_may (i ∷ interfaces) = drivers_may interfaces
 
     all_or_none_keeps : (w : S) (all : Bool) (v : S) → R level w v → R level w (all_or_none o (o.see w).soft (all, v)).1
     all_or_none_keeps w true v keeps = keeps
@@ -355,8 +359,8 @@ module _ {S : Type 0} (o : Operations S) (is_listable : List ℕ → Bool) (R : 
     pub many_keeps : (interfaces : List HandleInterface) (w : S) → R level w (many_uninstalled o settings b scope interfaces w).1
     unfolding many_uninstalled
     many_keeps interfaces w =
-        let r : Bool × S = each_uninstalled o settings b scope interfaces w in
-        all_or_none_keeps w r.0 r.1 (each_keeps interfaces w)
+        let r : Bool × S = each_uninstalled o settings b scope ADriver interfaces w in
+        all_or_none_keeps w r.0 r.1 (each_keeps ADriver interfaces w (drivers_may interfaces))
 
     -- ---- services that go on
 
@@ -376,7 +380,7 @@ module _ {S : Type 0} (o : Operations S) (is_listable : List ℕ → Bool) (R : 
     reentered_keeps (Disconnect controller driver child) w =
         disconnect_keeps level b k scope (record { controller = controller; driver = driver; child = child }) w
     reentered_keeps (Remove removal) w = removed_keeps removal w
-    reentered_keeps (Uninstall i) w = uninstalled_keeps ADriver i tt w
+    reentered_keeps (Uninstall i) w = uninstalled_keeps ADriver i refl w
     reentered_keeps (UninstallMany interfaces) w = many_keeps interfaces w
 
     gone_on_keeps : (came : Served) (w : S) → R level w (gone_on o settings b scope (came, w)).1
@@ -461,72 +465,3 @@ module _ {S : Type 0} (o : Operations S) (is_listable : List ℕ → Bool) (R : 
     pub run_keeps : (cpu : Cpu) (w : S) → R level w (run o settings b scope place cpu w).1
     unfolding run
     run_keeps cpu w = turns_keeps (suc (o.see w).hard.units) cpu w
-
-  -- ---- calls
-
-  pub stack_keeps : (level : ℕ) (b : Option (Level S)) → KeepsBelow is_listable R (suc level) b → (scope : Scope) (entry : ℕ) (slots children : List ℕ) (w : S)
-      → level < MOST_LEVELS → has_sixteen slots ≡ true → is_listable children ≡ true → R level w (ran_on_stack o settings b scope (suc level) entry slots children w).1
-  unfolding ran_on_stack
-  stack_keeps level b k scope entry slots children w lt sixteen few =
-      kept.stacked level slots children w _ lt sixteen few (run_keeps (suc level) b k scope (suc level) (entry_cpu (suc level) entry) (o.make (pushes (suc level) slots children) w))
-
-  entered_by_keeps : (level : ℕ) (b : Option (Level S)) → KeepsBelow is_listable R (suc level) b → (what : Code) (scope : Scope) (call : Call) (children : List ℕ) (w : S)
-      → level < MOST_LEVELS → has_sixteen call.slots ≡ true → is_listable children ≡ true → R level w (entered_by o what settings b scope (suc level) call children w).1
-  entered_by_keeps level b k (Ebc entry) scope call children w lt sixteen few = stack_keeps level b k scope entry call.slots children w lt sixteen few
-  entered_by_keeps level b k BusDriver scope call children w lt sixteen few = kept.same level w
-  entered_by_keeps level b k Foreign scope call children w lt sixteen few = kept.same level w
-  entered_by_keeps level b k NoCode scope call children w lt sixteen few = kept.same level w
-
-  pub entered_keeps : (level : ℕ) (b : Option (Level S)) → KeepsBelow is_listable R (suc level) b → (scope : Scope) (call : Call) (children : List ℕ) (w : S)
-      → level < MOST_LEVELS → has_sixteen call.slots ≡ true → is_listable children ≡ true → R level w (entered o settings b scope (suc level) call children w).1
-  unfolding entered
-  entered_keeps level b k scope call children w lt sixteen few = entered_by_keeps level b k (code_of call (o.see w).soft) scope call children w lt sixteen few
-
-  -- the call, around what is entered
-  abbrev under : (level : ℕ) → Option (Level S) → Scope → Call → List ℕ → S → Outcome × S
-  under level b scope call children w = entered o settings b (next_scope o w) level call children (begun o settings scope call w)
-
-  settled_keeps : (level : ℕ) (kind : CallKind) (w : S) (r : Outcome × S) → R level w r.1 → R level w (kept_or_undone o kind (o.see w).soft r).1
-  settled_keeps level kind w r keeps = choose (λ (v : S). R level w v) (commits kind r.0) _ _ keeps (kept.undone level w r.1 keeps)
-
-  enough_left : (w : S) → nat_lt (allowance settings (o.see w)) CALL_PRICE ≡ false
-      → nat_lt (o.see (o.make (caps settings.call_budget) w)).hard.units CALL_PRICE ≡ false
-  enough_left w is = rw (kept.sees (caps settings.call_budget) w) is
-
-  ended_keeps : (level : ℕ) (w v : S) (outcome : Outcome) → R level (o.make (caps settings.call_budget) w) v → R level w (ended o settings (o.see w) (outcome, v)).1
-  ended_keeps level w v outcome inner =
-      kept.capped level settings.call_budget w _
-      (kept.joined level _ _ _ (kept.joined level _ _ _ inner (kept.moves level (sets_tpl (o.see w).soft.tpl) v refl)) (kept.moves level (ends_event (next_serial (o.see w).hard) outcome) _ refl))
-
-  module _ (level : ℕ) (lt : level < MOST_LEVELS) where
-    called_by : (b : Option (Level S)) → KeepsBelow is_listable R (suc level) b → (scope : Scope) (call : Call) (children : List ℕ) (w : S) (short : Bool)
-        → nat_lt (allowance settings (o.see w)) CALL_PRICE ≡ short → has_sixteen call.slots ≡ true → is_listable children ≡ true
-        → R level w (if short then (Trapped Budget, w) else kept_or_undone o call.kind (o.see w).soft (ended o settings (o.see w) (under (suc level) b scope call children w))).1
-    called_by b k scope call children w true is sixteen few = kept.same level w
-    called_by b k scope call children w false is sixteen few =
-        let r : Outcome × S = under (suc level) b scope call children w in
-        settled_keeps level call.kind w (ended o settings (o.see w) r)
-        (ended_keeps level w r.1 r.0
-        (kept.joined level _ _ _
-        (kept.begins level scope.event (event_kind call.kind) call.driver call.controller call.extra (o.make (caps settings.call_budget) w) (enough_left w is))
-        (entered_keeps level b k (next_scope o w) call children (begun o settings scope call w) lt sixteen few)))
-
-    pub called_keeps : (b : Option (Level S)) → KeepsBelow is_listable R (suc level) b → (scope : Scope) (call : Call) (children : List ℕ) (w : S)
-        → has_sixteen call.slots ≡ true → is_listable children ≡ true → R level w (called o settings b (suc level) scope call children w).1
-    unfolding called
-    called_keeps b k scope call children w sixteen few = called_by b k scope call children w (nat_lt (allowance settings (o.see w)) CALL_PRICE) refl sixteen few
-
-    pub over_keeps : (b : Option (Level S)) → KeepsBelow is_listable R (suc level) b → Keeps is_listable R level (level_over o settings (suc level) b)
-    over_keeps b k = record {
-      call = λ scope call children w sixteen few. called_keeps b k scope call children w sixteen few;
-      connect = λ scope controller w. connect_keeps (suc level) b k scope (child_connection controller) [] w;
-      thunk = λ scope entry slots w sixteen. stack_keeps level b k scope entry slots [] w lt sixteen kept.childless;
-    }
-
-  -- all levels
-  pub below_keeps : (room level : ℕ) → level + room ≡ MOST_LEVELS → KeepsBelow is_listable R level (below o settings room)
-  unfolding below
-  below_keeps zero level all = tt
-  below_keeps (suc room) level all =
-      let next : level_with room ≡ suc level = omega (arith, all) in
-      rw next (over_keeps level (omega (arith, all)) (below o settings room) (below_keeps room (suc level) (omega (arith, all))))

@@ -4,7 +4,7 @@ use Rattle.world_model.proofs.Levels.{rest_is_free}
 use Rattle.driver_model.specs.Moves.{plain}
 use Rattle.driver_model.specs.Levels.{below, level_over, level_with}
 use Rattle.driver_model.specs.Staying.{CallsStay, ConnectsStay, DisconnectsStay, FreeStays, LoadsStay, ManyUninstallsStay, RemovalsStay, RestCanRun, RunsStay, ServicesGoingOnStay, StepsLeaveStacks, ThunksStay, TurnsStay, UninstallsStay, UnloadsStay, fits_list}
-use Rattle.driver_model.specs.UninstallWithReconnection.{ADriver}
+use Rattle.driver_model.specs.declared.request.Remover.TheVariants.{ADriver}
 use Rattle.driver_model.proofs.AllLevels.{level_itself, levels_below}
 use Rattle.driver_model.proofs.ImageLoads.{load_keeps}
 use Rattle.driver_model.proofs.Keeping.{connect_keeps, disconnect_keeps, many_keeps, reentered_keeps, removed_keeps, run_keeps, turn_keeps, uninstalled_keeps}
@@ -44,7 +44,7 @@ removals_stay settings room scope removal w le can =
 
 pub uninstalls_stay : UninstallsStay
 uninstalls_stay settings room scope i w le can =
-    uninstalled_keeps plain fits_list StaysAt stays_kept settings (level_with room) (below plain settings room) (levels_below plain fits_list StaysAt stays_kept settings room le) scope ADriver i tt w can
+    uninstalled_keeps plain fits_list StaysAt stays_kept settings (level_with room) (below plain settings room) (levels_below plain fits_list StaysAt stays_kept settings room le) scope ADriver i refl w can
 
 pub many_uninstalls_stay : ManyUninstallsStay
 many_uninstalls_stay settings room scope interfaces w le can =
@@ -58,7 +58,7 @@ services_going_on_stay settings room scope reentry w le can =
 
 pub loads_stay : LoadsStay
 loads_stay settings room scope file device w lt can =
-    load_keeps plain fits_list StaysAt stays_kept each_move_stays (level_with (suc room)) (level_over plain settings (level_with room) (below plain settings room)) (level_itself plain fits_list StaysAt stays_kept settings room lt) scope file device w can
+    load_keeps plain fits_list StaysAt stays_kept (level_with (suc room)) (level_over plain settings (level_with room) (below plain settings room)) (level_itself plain fits_list StaysAt stays_kept settings room lt) scope file device w can
 
 pub unloads_stay : UnloadsStay
 unloads_stay settings room scope handle w lt can =

@@ -7,7 +7,8 @@ use Rattle.std.proofs.lemmas.List.Elements.{All-append, All-cons, All-filter, Al
 use Rattle.std.proofs.lemmas.List.Folds.{list_any-append}
 use Rattle.world_model.specs.World.{Soft}
 use Rattle.driver_model.specs.Bindings.{all_bindings, binding, bindings_of}
-use Rattle.driver_model.specs.DriverOrder.{bus_group, bus_list, by_version, context_group, drivers_by, drivers_meant, first_places, inserted, order, platform_group, precedes, version_group}
+use Rattle.driver_model.specs.DriverOrder.{bus_group, bus_list_of, by_version, context_group, drivers_by, drivers_meant, first_places, inserted, order, platform_group, precedes, version_group}
+use Rattle.world_model.specs.BusChildren.{child_function}
 use Rattle.driver_model.specs.OrderLaws.{EachHasItsBinding, EachOnce, EveryBindingIsThere, OthersGoByVersion, VersionsFall, is_handle, is_each_once}
 use Rattle.driver_model.specs.declared.binding.BindingBlock.{BindingBlock}
 use Rattle.driver_model.proofs.Bindings.{among-all_bindings, handle-binding, rise-law}
@@ -80,7 +81,7 @@ binding-law controller context platform soft =
     (All-append P chosen (version_group soft)
     (All-append P first (bus_group controller soft)
     (All-append P (context_group context soft) (platform_group platform soft) (all-bindings_of soft context) (all-lists soft platform))
-    (all-lists soft (bus_list controller soft)))
+    (all-lists soft (bus_list_of (child_function controller soft) soft)))
     (all-by_version soft (all_bindings soft) (all-bindings_of soft _)))
 
 -- ---- every binding is there

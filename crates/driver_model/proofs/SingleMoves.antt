@@ -34,10 +34,12 @@ use Rattle.service_model.proofs.LastingInterfaces.{images-go}
 use Rattle.service_model.proofs.PutBytes.{puts-writable}
 use Rattle.service_model.proofs.SecondLooks.{second_look-goes}
 use Rattle.service_model.proofs.SoftPart.{Ground, IsKeptBy, StillKept, kept-by, services-go}
-use Rattle.driver_model.specs.Moves.{Move, changed, pays, caps, returns, begins_event, ends_event, steps, serves, looks_again, makes_thunk, pushes, pops, sets_tpl, puts_back, closes_all, closes_child, drops_weak, uninstalls, adds_image, drops_all}
+use Rattle.driver_model.specs.Moves.{Move, adds_child, frees, lists_images, opens_root, changed, pays, caps, returns, begins_event, ends_event, steps, serves, looks_again, makes_thunk, pushes, pops, sets_tpl, puts_back, closes_all, closes_child, drops_weak, uninstalls, adds_image, drops_all}
 use Rattle.driver_model.specs.Allowed.{has_lasting_interfaces, is_allowed}
 use Rattle.driver_model.specs.Staying.{Stays, if_fixed}
-use Rattle.driver_model.proofs.FixedBytes.{bytes_by_tests, bytes_joined, bytes_same, pass_mapped}
+use Rattle.driver_model.proofs.BusMoves.{child_stays, freed_stays, listed_stays, opened_stays}
+use Rattle.driver_model.proofs.Changes.{beside_memory, joined_stays, same_stays}
+use Rattle.driver_model.proofs.FixedBytes.{bytes_by_tests, bytes_same, pass_mapped}
 use Rattle.driver_model.proofs.ImageSweeps.{swept_stays}
 use Rattle.driver_model.proofs.Steps.{step_cases}
 
@@ -56,28 +58,6 @@ kept_by_changes = kept-by (record {
 
 pub ground : Ground
 ground = record { keeps = kept_by_changes; fits = fitting; puts = puts-writable }
-
--- ---- one change, and one after another
-
-pub same_stays : (soft : Soft) → IsKept soft → Stays soft soft
-same_stays soft kept = record { kept = kept; stacks = refl; later = omega arith; bytes = bytes_same soft soft refl }
-
-pub joined_stays : (one two three : Soft) → Stays one two → Stays two three → Stays one three
-joined_stays one two three first second = record {
-  kept = second.kept;
-  stacks = second.stacks ∙ first.stacks;
-  later = omega (arith, first.later, second.later);
-  bytes = bytes_joined one two three first.later first.bytes second.bytes;
-}
-
--- a change that leaves memory and the next block
-beside_memory : (old new : Soft) → new.memory ≡ old.memory → new.next_block ≡ old.next_block → IsKept new → Stays old new
-beside_memory old new memory block kept = record {
-  kept = kept;
-  stacks = ap (λ segments. stacks (with_memory segments old)) memory;
-  later = omega (arith, block);
-  bytes = bytes_same old new (ap fixed_segments memory);
-}
 
 -- each single change that services make
 stays_by_changes : IsKeptBy Stays
@@ -183,6 +163,10 @@ move_stays (drops_weak handle guid) w can kept = beside_memory w.soft _ refl ref
 move_stays (uninstalls handle guid) w can kept = beside_memory w.soft _ refl refl (uninstalling w.soft handle guid kept (not_lasting w.soft handle guid kept can))
 move_stays (adds_image bytes entry subsystem device) w can kept = added_stays bytes entry subsystem device w.soft kept can
 move_stays (drops_all image) w can kept = swept_stays image w.soft kept
+move_stays (opens_root controller) w can kept = opened_stays controller w can kept
+move_stays (adds_child controller function) w can kept = child_stays controller function w can kept
+move_stays (lists_images function images) w can kept = listed_stays function images w.soft kept
+move_stays (frees at) w can kept = freed_stays at w.soft kept
 
 -- ---- and a step leaves the stacks of every world
 

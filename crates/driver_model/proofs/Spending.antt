@@ -10,12 +10,13 @@ use Rattle.world_model.specs.World.{Hard, State}
 use Rattle.world_model.specs.Events.{next_serial, pending_outcome, with_result}
 use Rattle.service_model.specs.SecondLook.{SpendsNothing}
 use Rattle.service_model.specs.Untouched.{EventsStay, UnitsNeverRise}
-use Rattle.driver_model.specs.Moves.{Move, changed, plain, pays, caps, returns, begins_event, ends_event, steps, serves, looks_again, makes_thunk, pushes, pops, sets_tpl, puts_back, closes_all, closes_child, drops_weak, uninstalls, adds_image, drops_all}
+use Rattle.driver_model.specs.Moves.{Move, adds_child, frees, lists_images, opens_root, changed, plain, pays, caps, returns, begins_event, ends_event, steps, serves, looks_again, makes_thunk, pushes, pops, sets_tpl, puts_back, closes_all, closes_child, drops_weak, uninstalls, adds_image, drops_all}
 use Rattle.driver_model.specs.Allowed.{is_allowed}
 use Rattle.driver_model.specs.Levels.{below}
 use Rattle.driver_model.specs.Spending.{Spends, without_result}
 use Rattle.driver_model.specs.declared.settings.Settings.{Settings}
-use Rattle.driver_model.proofs.Keeping.{KeepsBelow, KeepsEachMove, KeepsMoves, allowed_in_calls, below_keeps}
+use Rattle.driver_model.proofs.Keeping.{KeepsBelow, KeepsEachMove, KeepsMoves, allowed_in_calls}
+use Rattle.driver_model.proofs.KeepingCalls.{below_keeps}
 
 -- whatever children a Stop is given
 abbrev pub any_list : List ℕ → Bool
@@ -126,6 +127,10 @@ module _ (events_stay : EventsStay) (units_fall : UnitsNeverRise) (looks : Spend
   moved (uninstalls handle guid) w is = still w.hard _ refl
   moved (adds_image bytes entry subsystem device) w is = still w.hard _ refl
   moved (drops_all image) w is = still w.hard _ refl
+  moved (opens_root controller) w is = still w.hard _ refl
+  moved (adds_child controller function) w is = still w.hard _ refl
+  moved (lists_images function images) w is = still w.hard _ refl
+  moved (frees at) w is = still w.hard _ refl
 
   pub each_move_spends : KeepsEachMove plain SpendsAt
   each_move_spends level move w is = moved move w is

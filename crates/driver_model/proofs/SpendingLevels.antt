@@ -39,7 +39,7 @@ module _ (looks : SpendsNothing) where
 
   pub loads_spend : LoadsSpend
   loads_spend settings room scope file device w lt =
-      load_keeps plain any_list SpendsAt spends_kept each_spends (level_with (suc room)) (level_over plain settings (level_with room) (below plain settings room))
+      load_keeps plain any_list SpendsAt spends_kept (level_with (suc room)) (level_over plain settings (level_with room) (below plain settings room))
       (level_itself plain any_list SpendsAt spends_kept settings room lt) scope file device w
 
   pub unloads_spend : UnloadsSpend

@@ -14,7 +14,8 @@ use Rattle.driver_model.specs.Staying.{CanRun, Stays, fits_list}
 use Rattle.driver_model.specs.StopOrder.{children_of}
 use Rattle.driver_model.proofs.Keeping.{KeepsEachMove, KeepsMoves, allowed_in_calls}
 use Rattle.driver_model.proofs.PushedStacks.{next_can_run, popped_stays}
-use Rattle.driver_model.proofs.SingleMoves.{joined_stays, move_stays, same_stays}
+use Rattle.driver_model.proofs.Changes.{joined_stays, same_stays}
+use Rattle.driver_model.proofs.SingleMoves.{move_stays}
 
 -- ---- what can run
 

@@ -106,7 +106,7 @@ swept_images_are_gone image soft kept found = subst (λ (one : Option LoadedImag
 
 -- ---- what is left
 
-live_with : (handle : ℕ) (guid : List ℕ) (db : Database) → is_some (interface_of handle guid db) ≡ true → is_live handle db ≡ true
+pub live_with : (handle : ℕ) (guid : List ℕ) (db : Database) → is_some (interface_of handle guid db) ≡ true → is_live handle db ≡ true
 live_with handle guid db some = sym (is_some-find (is_handle handle) db.handles) ∙ by_found (find (is_handle handle) db.handles) some
   where
     by_found : (found : Option HandleEntry) → is_some {T = ℕ × ℕ} (option_map (λ (one : Interface). (one.interface, one.owner)) (find (is_guid guid) (interfaces_in found))) ≡ true → is_some found ≡ true

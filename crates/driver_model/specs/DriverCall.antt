@@ -5,15 +5,14 @@
 --  1. A call may spend the smaller of the call budget and what its caller has left. If that is less than its price, the
 --     outcome is the trap Budget, nothing is spent and there is no event (`allowance`, `called`).
 --  2. The price is paid, and the event begins (`begun`).
---  3. What is called (`code_of`): the entry point of an image; a live thunk; the bus driver's own function, by its own
+--  3. What is called (`code_of`): the entry point of an image; a live thunk; the bus driver's own functions, by its own
 --     binding; one of these functions in any other binding, which answers UNSUPPORTED; anything else traps with BadCall.
 --  4. The code runs on a new stack of its level, with its arguments (`ran_on_stack`).
 --  5. It ends with the value of R7, or with a trap, which ends the innermost driver call (`entered_by`).
 --  6. The task priority level is as at the beginning, and the event ends (`ended`). Supported never commits. The other
 --     kinds commit exactly if the value has bit 63 clear. A call that does not commit leaves the soft part as it was when
 --     it began. Units and events are never undone (`kept_or_undone`).
-use Rattle.std.specs.Prelude.{ℕ, Bool, false, ◌&&◌, min, nat_eq, nat_lt, not, List, [], ◌∷◌, Option, Some, None, if◌then◌else◌}
-use Rattle.std.specs.List.{list_any}
+use Rattle.std.specs.Prelude.{ℕ, Bool, false, ◌&&◌, min, nat_eq, nat_lt, List, [], ◌∷◌, slice_index, Option, Some, None, if◌then◌else◌}
 use Rattle.fw_types.specs.declared.event.Cause.TheVariants.{BadCall, Budget}
 use Rattle.fw_types.specs.declared.event.EventKind.{EventKind}
 use Rattle.fw_types.specs.declared.event.EventKind.TheVariants as event
@@ -32,12 +31,14 @@ use Rattle.world_model.specs.Thunks.{thunk_at}
 use Rattle.driver_model.specs.Moves.{Operations, begins_event, caps, ends_event, pays, pops, pushes, puts_back, returns, sets_tpl}
 use Rattle.driver_model.specs.Level.{Level}
 use Rattle.driver_model.specs.Activations.{is_success, next_scope}
+use Rattle.driver_model.specs.BusDriver.{bus_started, bus_stopped}
+use Rattle.driver_model.specs.BusSupport.{functions_chosen, support_status}
 use Rattle.driver_model.specs.GuestRun.{run}
 use Rattle.driver_model.specs.declared.call.Call.{Call}
 use Rattle.driver_model.specs.declared.call.CallKind.{CallKind}
 use Rattle.driver_model.specs.declared.call.CallKind.TheVariants.{Entry, Supported, Start, Stop, Unload}
 use Rattle.driver_model.specs.declared.call.Code.{Code}
-use Rattle.driver_model.specs.declared.call.Code.TheVariants.{Ebc, BusDriver, Foreign, NoCode}
+use Rattle.driver_model.specs.declared.call.Code.TheVariants.{Ebc, BusSupported, BusStart, BusStop, Foreign, NoCode}
 use Rattle.driver_model.specs.declared.call.RunEnd.{RunEnd}
 use Rattle.driver_model.specs.declared.call.RunEnd.TheVariants.{Returned, Over}
 use Rattle.driver_model.specs.declared.call.Scope.{Scope}
@@ -50,31 +51,26 @@ allowance settings w = min settings.call_budget w.hard.units
 
 -- ---- rule 3
 
--- the bus driver's function of a kind
-abbrev pub bus_function : CallKind → Option ℕ
-bus_function Supported = Some BUS_SUPPORTED
-bus_function Start = Some BUS_START
-bus_function Stop = Some BUS_STOP
-bus_function Entry = None
-bus_function Unload = None
+-- the function of the bus driver at an address, if there is one
+abbrev pub bus_code : (at : ℕ) → Option Code
+bus_code at =
+    if nat_eq at BUS_SUPPORTED then Some BusSupported
+    else if nat_eq at BUS_START then Some BusStart
+    else if nat_eq at BUS_STOP then Some BusStop
+    else None
 
-abbrev pub is_address : ℕ → Option ℕ → Bool
-is_address at None = false
-is_address at (Some address) = nat_eq at address
-
--- whether the bus driver's function of the kind is called by its own binding
+-- whether the bus driver is called by its own binding
 abbrev pub is_bus_driver_call : Call → Bool
-is_bus_driver_call call = nat_eq call.driver bus_driver && nat_eq call.binding BUS_BINDING && is_address call.address (bus_function call.kind)
+is_bus_driver_call call = nat_eq call.driver bus_driver && nat_eq call.binding BUS_BINDING
 
-abbrev pub is_bus_address : ℕ → Bool
-is_bus_address at = list_any (nat_eq at) (BUS_SUPPORTED ∷ BUS_START ∷ BUS_STOP ∷ [])
+-- a function of the bus driver is its own only by its own binding
+abbrev pub native_code : Option Code → Call → Code
+native_code None call = NoCode
+native_code (Some code) call = if is_bus_driver_call call then code else if nat_eq call.binding 0 then NoCode else Foreign
 
 abbrev pub code_by : (thunk : Option ℕ) → Call → Code
 code_by (Some entry) call = Ebc entry
-code_by None call =
-    if is_bus_driver_call call then BusDriver
-    else if not (nat_eq call.binding 0) && is_bus_address call.address then Foreign
-    else NoCode
+code_by None call = native_code (bus_code call.address) call
 
 -- an entry point is called at its address, all else by a thunk or as native code
 abbrev pub code_for : CallKind → Call → Soft → Code
@@ -115,6 +111,10 @@ outcome_of (Over outcome) = outcome
 
 -- ---- rule 4
 
+-- the remaining device path of Supported and Start, their third argument
+abbrev pub path_of : Call → ℕ
+path_of call = slice_index call.slots 2
+
 -- the registers at the beginning of a run on a new stack: IP is at the entry, and R0 at the frame
 abbrev pub entry_cpu : (level entry : ℕ) → Cpu
 entry_cpu level entry = record (frame level) { ip = entry }
@@ -131,11 +131,13 @@ module _ {S : Type 0} (o : Operations S) where
   abbrev pub with_outcome : RunEnd × S → Outcome × S
   with_outcome r = (outcome_of r.0, r.1)
 
-  -- the bus driver's own functions are not built yet
   abbrev pub entered_by : Code → Settings → Option (Level S) → Scope → (level : ℕ) → Call → (children : List ℕ) → S → Outcome × S
   entered_by (Ebc entry) settings below scope level call children w =
       with_outcome (ran_on_stack settings below scope level entry call.slots children w)
-  entered_by BusDriver settings below scope level call children w = (Value UNSUPPORTED, w)
+  entered_by BusSupported settings below scope level call children w =
+      (Value (support_status (functions_chosen call.controller (path_of call) (o.see w))), w)
+  entered_by BusStart settings below scope level call children w = bus_started o below scope call.controller (path_of call) w
+  entered_by BusStop settings below scope level call children w = bus_stopped o settings below scope call.controller children w
   entered_by Foreign settings below scope level call children w = (Value UNSUPPORTED, w)
   entered_by NoCode settings below scope level call children w = (Trapped BadCall, w)
 

@@ -2,6 +2,7 @@
 -- of precedence). The driver family override is not built.
 use Rattle.std.specs.Prelude.{ℕ, Bool, ◌&&◌, ◌||◌, not, nat_eq, nat_lt, List, [], ◌∷◌, ◌++◌, filter, flat_map, find, Option, Some, None, if◌then◌else◌}
 use Rattle.world_model.specs.World.{Soft}
+use Rattle.world_model.specs.BusChildren.{bus_list, child_function}
 use Rattle.driver_model.specs.Bindings.{all_bindings, binding, bindings_of}
 use Rattle.driver_model.specs.declared.binding.BindingBlock.{BindingBlock}
 use Rattle.driver_model.specs.declared.settings.PlatformList.{PlatformList}
@@ -35,12 +36,13 @@ platform_group platform soft = flat_map (drivers_by soft) platform
 
 -- ---- 3. the bus specific driver override: the list that the bus driver keeps for the controller's function
 
--- no function has a list yet
-abbrev pub bus_list : (controller : ℕ) → Soft → List ℕ
-bus_list controller soft = []
+-- a controller that is no child of the bus has none
+abbrev pub bus_list_of : (function : Option ℕ) → Soft → List ℕ
+bus_list_of None soft = []
+bus_list_of (Some number) soft = bus_list number soft
 
 abbrev pub bus_group : (controller : ℕ) → Soft → List BindingBlock
-bus_group controller soft = flat_map (drivers_by soft) (bus_list controller soft)
+bus_group controller soft = flat_map (drivers_by soft) (bus_list_of (child_function controller soft) soft)
 
 -- ---- 4. all driver bindings: the highest Version first, and of equal Versions the lowest handle first
 

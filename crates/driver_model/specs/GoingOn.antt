@@ -9,8 +9,9 @@ use Rattle.driver_model.specs.Level.{Level}
 use Rattle.driver_model.specs.Connect.{connect}
 use Rattle.driver_model.specs.Disconnect.{disconnect}
 use Rattle.driver_model.specs.OpenWithRemoval.{removed, status_answer}
-use Rattle.driver_model.specs.UninstallWithReconnection.{ADriver, many_uninstalled, uninstalled}
+use Rattle.driver_model.specs.UninstallWithReconnection.{many_uninstalled, uninstalled}
 use Rattle.driver_model.specs.declared.call.Scope.{Scope}
+use Rattle.driver_model.specs.declared.request.Remover.TheVariants.{ADriver}
 use Rattle.driver_model.specs.declared.settings.Settings.{Settings}
 
 module _ {S : Type 0} (o : Operations S) where

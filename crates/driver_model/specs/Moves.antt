@@ -15,11 +15,13 @@ use Rattle.world_model.specs.Thunks.{thunk_made}
 use Rattle.world_model.specs.Interfaces.{interface_removed}
 use Rattle.world_model.specs.Records.{all_left, child_left, weak_dropped}
 use Rattle.world_model.specs.Images.{image_added}
+use Rattle.world_model.specs.BusChildren.{with_bus_list}
 use Rattle.service_model.specs.BootServices.{served}
 use Rattle.service_model.specs.Changes.{number_stored}
 use Rattle.service_model.specs.SecondLook.{looked_again}
 use Rattle.service_model.specs.declared.call.Caller.{Caller}
 use Rattle.service_model.specs.declared.call.Opening.{Opening}
+use Rattle.driver_model.specs.BusChildren.{bus_child_made, firmware_block_freed, root_opened}
 use Rattle.world_model.specs.ImageSweep.{image_swept}
 
 pub data Move : Type 0 where
@@ -49,6 +51,12 @@ pub data Move : Type 0 where
   -- images: one is added; one goes, with all that belongs to it
   adds_image : (bytes : List ℕ) → (entry subsystem device : ℕ) → Move
   drops_all : (image : ℕ) → Move
+  -- the bus driver: it opens root bridge I/O; a child is made for a function; the images of an option ROM become the bus list
+  -- of its function; a block of the firmware is freed, if one begins at the address
+  opens_root : (controller : ℕ) → Move
+  adds_child : (controller function : ℕ) → Move
+  lists_images : (function : ℕ) → (images : List ℕ) → Move
+  frees : (at : ℕ) → Move
 
 -- what a move makes of a state
 abbrev pub changed : Move → State → State
@@ -71,6 +79,10 @@ changed (drops_weak handle guid) w = on_soft (weak_dropped handle guid) w
 changed (uninstalls handle guid) w = on_soft (interface_removed handle guid) w
 changed (adds_image bytes entry subsystem device) w = on_soft (image_added bytes entry subsystem device) w
 changed (drops_all image) w = on_soft (image_swept image) w
+changed (opens_root controller) w = on_soft (root_opened controller) w
+changed (adds_child controller function) w = bus_child_made controller function w
+changed (lists_images function images) w = on_soft (with_bus_list function images) w
+changed (frees at) w = on_soft (firmware_block_freed at) w
 
 -- how the state of a machine is seen, and how it makes a move
 pub record Operations (S : Type 0) : Type 0 where

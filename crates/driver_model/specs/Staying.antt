@@ -21,7 +21,7 @@ use Rattle.driver_model.specs.Allowed.{has_sixteen}
 use Rattle.driver_model.specs.Connect.{connect}
 use Rattle.driver_model.specs.Disconnect.{disconnect}
 use Rattle.driver_model.specs.OpenWithRemoval.{removed}
-use Rattle.driver_model.specs.UninstallWithReconnection.{ADriver, many_uninstalled, uninstalled}
+use Rattle.driver_model.specs.UninstallWithReconnection.{many_uninstalled, uninstalled}
 use Rattle.driver_model.specs.GoingOn.{reentered}
 use Rattle.driver_model.specs.GuestRun.{run, turn}
 use Rattle.driver_model.specs.DriverCall.{called, thunk_ran}
@@ -32,6 +32,7 @@ use Rattle.driver_model.specs.declared.call.Call.{Call}
 use Rattle.driver_model.specs.declared.call.Scope.{Scope}
 use Rattle.driver_model.specs.declared.request.Connection.{Connection}
 use Rattle.driver_model.specs.declared.request.Disconnection.{Disconnection}
+use Rattle.driver_model.specs.declared.request.Remover.TheVariants.{ADriver}
 use Rattle.driver_model.specs.declared.settings.Settings.{Settings}
 
 -- ---- the statement

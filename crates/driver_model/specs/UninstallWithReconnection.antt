@@ -26,12 +26,9 @@ use Rattle.driver_model.specs.Connect.{child_connection, connect}
 use Rattle.driver_model.specs.Disconnect.{disconnect}
 use Rattle.driver_model.specs.OpenWithRemoval.{is_passed_on}
 use Rattle.driver_model.specs.declared.call.Scope.{Scope}
+use Rattle.driver_model.specs.declared.request.Remover.{Remover}
+use Rattle.driver_model.specs.declared.request.Remover.TheVariants.{TheFirmware, ADriver}
 use Rattle.driver_model.specs.declared.settings.Settings.{Settings}
-
--- who uninstalls: the firmware, which is the bus driver, or a driver
-pub data Remover : Type 0 where
-  TheFirmware : Remover
-  ADriver : Remover
 
 -- ---- is it there?
 
@@ -103,16 +100,16 @@ module _ {S : Type 0} (o : Operations S) where
 
   -- ---- several pairs
 
-  -- one after the other, as long as each succeeds
+  -- one after the other, as long as each is uninstalled
   abbrev pub if_uninstalled : (S → Bool × S) → Status × S → Bool × S
   if_uninstalled others r = if nat_eq r.0.0 SUCCESS.0 then others r.1 else (false, r.1)
 
-  unfoldable pub each_uninstalled : Settings → Option (Level S) → Scope → List HandleInterface → S → Bool × S
-  each_uninstalled settings below scope [] w = (true, w)
-  each_uninstalled settings below scope (i ∷ interfaces) w =
-      if_uninstalled (each_uninstalled settings below scope interfaces) (uninstalled settings below scope ADriver i w)
+  unfoldable pub each_uninstalled : Settings → Option (Level S) → Scope → Remover → List HandleInterface → S → Bool × S
+  each_uninstalled settings below scope remover [] w = (true, w)
+  each_uninstalled settings below scope remover (i ∷ interfaces) w =
+      if_uninstalled (each_uninstalled settings below scope remover interfaces) (uninstalled settings below scope remover i w)
 
-  -- At the first answer that is not SUCCESS the soft part is as it was at the beginning, and the answer is
+  -- For a driver: at the first answer that is not SUCCESS the soft part is as it was at the beginning, and the answer is
   -- INVALID_PARAMETER.
   abbrev pub all_or_none : (before : Soft) → Bool × S → Status × S
   all_or_none before (true, w) = (SUCCESS, w)
@@ -120,4 +117,4 @@ module _ {S : Type 0} (o : Operations S) where
 
   unfoldable pub many_uninstalled : Settings → Option (Level S) → Scope → List HandleInterface → S → Status × S
   many_uninstalled settings below scope interfaces w =
-      all_or_none (o.see w).soft (each_uninstalled settings below scope interfaces w)
+      all_or_none (o.see w).soft (each_uninstalled settings below scope ADriver interfaces w)

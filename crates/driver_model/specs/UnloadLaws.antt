@@ -134,12 +134,12 @@ ThunksEnterLoadedImages =
     → thunk_at at (left_by_unload settings room scope handle w).soft ≡ Some entry
     → is_some (image_at entry (left_by_unload settings room scope handle w).soft) ≡ true
 
--- Driver calls load and unload no image.
-abbrev pub CallsLeaveImages : Type 0
-CallsLeaveImages =
-    (settings : Settings) (room : ℕ) (scope : Scope) (call : Call) (children : List ℕ) (w : State)
+-- Driver calls unload no image: an image that is loaded is loaded after them, as it was.
+abbrev pub CallsUnloadNone : Type 0
+CallsUnloadNone =
+    (settings : Settings) (room : ℕ) (scope : Scope) (call : Call) (children : List ℕ) (handle : ℕ) (image : LoadedImage) (w : State)
     → room < MOST_LEVELS → has_sixteen call.slots ≡ true → fits_list children ≡ true → CanRun (level_with (suc room)) w.soft
-    → (left_by_call settings room scope call children w).soft.images ≡ w.soft.images
+    → image_of handle w.soft.images ≡ Some image → image_of handle (left_by_call settings room scope call children w).soft.images ≡ Some image
 
 -- An unload that succeeds is that of a loaded image. It leaves what the sweep makes of what the handler left.
 abbrev pub UnloadsThatSucceedSweep : Type 0

@@ -67,8 +67,12 @@ pub enum Callee {
 pub enum Code {
     /// EBC code at this address.
     Ebc(u64),
-    /// The function of the PCI bus driver, which is native code.
-    BusDriver,
+    /// Supported of the PCI bus driver, which is native code.
+    BusSupported,
+    /// Start of the PCI bus driver.
+    BusStart,
+    /// Stop of the PCI bus driver.
+    BusStop,
     /// A function of the PCI bus driver, by another binding than its own.
     Foreign,
     /// The firmware can't call what is there.

@@ -1,6 +1,7 @@
 //! Laws of what driver calls leave and what they cost, over the definitions alone. Each is the contract of a
 //! function with no work of its own.
 
+ghost use Rattle.driver_model.specs.BoardLaws.{BoardStays, BusListsStay};
 ghost use Rattle.driver_model.specs.CallLaws.{CallsHaveTheirEvent, CallsLeaveTpl, SupportedLeaves, UncommittedCallsLeave};
 ghost use Rattle.driver_model.specs.Chains.{CallsAreChains, ConnectsAreChains, DisconnectsAreChains, LoadsAreChains, RunsAreChains, UnloadsAreChains};
 ghost use Rattle.driver_model.specs.Spending.{CallsSpend, ConnectsSpend, DisconnectsSpend, LoadsSpend, RunsSpend, ServicesGoingOnSpend};
@@ -43,4 +44,11 @@ pub fn all_are_chains()
     ensures disconnects { DisconnectsAreChains }
     ensures loads { LoadsAreChains }
     ensures unloads { UnloadsAreChains }
+{}
+
+/// Whatever driver calls, runs, activations, loads and unloads change, the board has its lines and its functions
+/// their option ROMs, and there is one bus list for each function if there was at first.
+pub fn boards_stay()
+    ensures board { BoardStays }
+    ensures lists { BusListsStay }
 {}

@@ -6,12 +6,14 @@
 //! a driver calls services that call drivers, 32 levels deep. `specs/Connect.antt`, `Disconnect.antt`,
 //! `OpenWithRemoval.antt` and `UninstallWithReconnection.antt` are the rules of the services that go on, and
 //! `specs/GuestRun.antt` and `DriverCall.antt` those of runs and calls. `specs/Levels.antt` ties the levels together.
-//! `laws`, `call_laws` and `unload_laws` say what they leave, `fuel_laws` that no run ends because its turns run out, and
-//! `order_laws` what holds of the order of drivers and of searches. There is code only where definitions and code share a
-//! plain type.
+//! `laws`, `call_laws` and `unload_laws` say what they leave, `bus_laws` what holds where the PCI bus driver changes the
+//! state, `fuel_laws` that no run ends because its turns run out, and `order_laws` what holds of the order of drivers and
+//! of searches. There is code only where definitions and code share a plain type.
 #![tactic(auto)]
 
 mod binding;
+mod bus_driver;
+pub mod bus_laws;
 mod call;
 pub mod call_laws;
 pub mod fuel_laws;
@@ -22,6 +24,7 @@ mod settings;
 pub mod unload_laws;
 
 pub use binding::{BINDING_SIZE, BindingBlock};
+pub use bus_driver::{CHILD_PRICE, NewChild, PathChoice};
 pub use call::{Call, CallKind, Callee, Code, RunEnd, Scope};
-pub use request::{Connection, Disconnection, StopTurn};
+pub use request::{Connection, Disconnection, Remover, StopTurn};
 pub use settings::{PlatformList, Settings};

@@ -22,6 +22,15 @@ pub struct Disconnection {
     pub child: u64,
 }
 
+/// Who uninstalls an interface (UEFI 2.8, 7.3: UninstallProtocolInterface).
+#[derive(Clone, Copy, Debug, PartialEq, Eq)]
+pub enum Remover {
+    /// The firmware, for its PCI bus driver.
+    TheFirmware,
+    /// A driver.
+    ADriver,
+}
+
 /// What a driver's turn in a disconnect came to.
 #[derive(Clone, Copy, Debug, PartialEq, Eq)]
 pub enum StopTurn {

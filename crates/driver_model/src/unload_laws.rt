@@ -4,7 +4,7 @@
 ghost use Rattle.driver_model.specs.Spending.{UnloadsSpend};
 ghost use Rattle.driver_model.specs.Staying.{UnloadsStay};
 ghost use Rattle.driver_model.specs.UnloadLaws.{
-  CallsLeaveImages,
+  CallsUnloadNone,
   SweepsLeaveOthers,
   SweepsStay,
   SweptImagesAreGone,
@@ -45,7 +45,7 @@ pub fn failed_unloads_leave()
 /// thunk enters it, and no byte of it and of its loaded image block can be read.
 pub fn unloaded_images_are_gone()
     ensures sweeps { UnloadsThatSucceedSweep }
-    ensures loaded { CallsLeaveImages }
+    ensures loaded { CallsUnloadNone }
     ensures gone { UnloadedImagesAreGone }
 {}
 

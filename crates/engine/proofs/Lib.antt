@@ -3,3 +3,4 @@ pub mod Searches
 pub mod Stops
 pub mod Loads
 pub mod Uninstalls
+pub mod BusDrivers

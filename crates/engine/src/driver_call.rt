@@ -11,8 +11,9 @@ ghost use Rattle.driver_model.specs.Levels.{level_with};
 ghost use Rattle.engine.specs.AtLevel.{level_below};
 ghost use Rattle.bind_parts.specs.Events.{NoFewerEvents};
 
+use crate::bus_driver::{start_bus, stop_bus};
 use crate::guest_run::run_code;
-use bind_parts::{allowance, code_of, event_kind, outcome_of, settle};
+use bind_parts::{allowance, bus_support, code_of, event_kind, outcome_of, path_of, settle};
 use driver_model::{Call, Code, RunEnd, Scope, Settings};
 use ebc_machine::Cpu;
 use fw_types::{CALL_PRICE, Cause, MOST_LEVELS, OutOfMemory, Outcome, Status};
@@ -93,12 +94,23 @@ fn enter(
     ensures units { OnOk result (world.new.now.hard.units ≤ world.old.now.hard.units) }
     ensures events { OnOk result (NoFewerEvents world.old.now world.new.now) }
 {
+    levels_are_free();
+    marks_suffice();
     match code_of(world, call) {
         Code::Ebc(entry) => {
             let end = run_on_stack(world, settings, room, scope, entry, &call.slots, children)?;
             Ok(outcome_of(end))
         }
-        Code::BusDriver | Code::Foreign => Ok(Outcome::Value(Status::UNSUPPORTED)),
+        Code::BusSupported => {
+            let status = bus_support(world, call.controller, path_of(call));
+            Ok(Outcome::Value(status))
+        }
+        Code::BusStart => {
+            let path = path_of(call);
+            start_bus(world, settings, room, scope, call.controller, path)
+        }
+        Code::BusStop => stop_bus(world, settings, room, scope, call.controller, children),
+        Code::Foreign => Ok(Outcome::Value(Status::UNSUPPORTED)),
         Code::NoCode => Ok(Outcome::Trapped(Cause::BadCall)),
     }
 }

@@ -20,6 +20,7 @@ use world_model::laws::{levels_are_free, marks_suffice, stacks_stand};
 
 /// Lays the image of an accepted file that is paid for, and calls its entry point at the level with
 /// this room. If that fails the soft part is as before. At a limit nothing is done.
+#[cycle(engine)]
 fn lay_and_enter(
     world: &mut World,
     settings: &Settings,
@@ -55,6 +56,7 @@ fn lay_and_enter(
 
 /// Pays for laying the image of an accepted file, lays it, and calls its entry point. No mark is
 /// made before it is paid.
+#[cycle(engine)]
 fn pay_and_enter(
     world: &mut World,
     settings: &Settings,
@@ -90,6 +92,7 @@ fn pay_and_enter(
 ///
 /// `OutOfMemory` if there is no memory for the image, for the mark, or for what the entry point
 /// does.
+#[cycle(engine)]
 #[tactic(auto, unfolding(driver_model::specs::ImageLife::image_loaded))]
 pub fn load_image(
     world: &mut World,

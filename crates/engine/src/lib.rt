@@ -2,7 +2,7 @@
 //! driver calls that they make, the runs of EBC code inside those, and the services by which that
 //! code enters the driver model again, 32 levels deep (UEFI 2.8, 7.3, 11.1
 //! and chapter 22). It also loads images, whose entry points it calls, and unloads them (UEFI 2.8,
-//! 7.4).
+//! 7.4). One driver is its own: the PCI bus driver, `bus_driver` (UEFI 2.8, 14.3.2).
 //!
 //! What each function does is a definition of `driver_model`, which its contract cites. The
 //! functions call each other in one cycle, which goes down a level with each driver call, each
@@ -10,8 +10,11 @@
 //!
 //! ```text
 //! connect, disconnect  ->  search, stop_turn  ->  driver_call  ->  guest_run  ->  native_call
-//!        ^                                                                            |
-//!        +----------------------------------------------------------------------------+
+//!        ^                                                  |                         |
+//!        |                                                  v                         |
+//!        |                     image_load  <-----------  bus_driver                   |
+//!        |                                                  |                         |
+//!        +--------------------------------------------------+-------------------------+
 //! ```
 //!
 //! A function takes the room of the level at which it works: how many levels are below it. Beside
@@ -22,6 +25,7 @@
 //! What calls no driver is in `bind_parts`.
 #![tactic(auto)]
 
+mod bus_driver;
 mod connection;
 mod disconnection;
 mod driver_call;

@@ -17,7 +17,7 @@ use crate::removal::remove;
 use crate::thunk_call::call_thunk;
 use crate::uninstallation::{uninstall, uninstall_many};
 use bind_parts::{callee, caller, serve_caller, take_answer, trapped};
-use driver_model::{Callee, Connection, Disconnection, RunEnd, Scope, Settings};
+use driver_model::{Callee, Connection, Disconnection, Remover, RunEnd, Scope, Settings};
 use ebc_machine::Cpu;
 use fw_types::{Cause, Handle, OutOfMemory};
 use fw_world::World;
@@ -174,7 +174,7 @@ fn reenter(
         }
         Reentry::Remove(removal) => remove(world, settings, room, scope, &removal),
         Reentry::Uninstall(i) => {
-            let status = uninstall(world, settings, room, scope, &i)?;
+            let status = uninstall(world, settings, room, scope, Remover::ADriver, &i)?;
             Ok(Served::Value(status.0))
         }
         Reentry::UninstallMany(interfaces) => {

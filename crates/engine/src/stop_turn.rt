@@ -13,9 +13,9 @@ ghost use Rattle.bind_parts.specs.Events.{NoFewerEvents};
 use crate::driver_call::call_driver;
 use bind_parts::{
     are_all, children_of, children_to_stop, close_children, is_of_another, is_success, manages,
-    numbers_of, stop_call,
+    stop_call,
 };
-use bind_plan::binding;
+use bind_plan::{binding, numbers_of};
 use driver_model::{BindingBlock, Disconnection, Scope, Settings, StopTurn};
 use fw_types::{Handle, OutOfMemory};
 use fw_world::World;

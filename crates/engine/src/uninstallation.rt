@@ -1,29 +1,33 @@
 //! UninstallProtocolInterface and UninstallMultipleProtocolInterfaces of interfaces that may be in use
 //! (UEFI 2.8, 7.3).
 ghost use Rattle.std.specs.Prelude.{◌≡◌, ◌≤◌, IfOk, OnOk, is_ok, length, true, false};
+ghost use Rattle.std.specs.List.{list_all};
 ghost use Rattle.fw_types.specs.declared.limits.TheConstants.{MOST_LEVELS as most_levels};
 ghost use Rattle.world_model.specs.Interfaces.{is_lasting, uninstall_answer};
 ghost use Rattle.world_model.specs.Levels.{has_marks, is_free};
 ghost use Rattle.world_model.specs.Marks.{stacks};
 ghost use Rattle.driver_model.specs.Moves.{plain};
-ghost use Rattle.driver_model.specs.UninstallWithReconnection.{ADriver, after_release, each_uninstalled, many_uninstalled, manager_on as manager_value, released, taken_away, uninstalled};
+ghost use Rattle.driver_model.specs.Allowed.{may_go};
+ghost use Rattle.driver_model.specs.UninstallWithReconnection.{after_release, each_uninstalled, many_uninstalled, manager_on as manager_value, released, taken_away, uninstalled};
 ghost use Rattle.engine.specs.AtLevel.{level_below};
 ghost use Rattle.bind_parts.specs.Events.{NoFewerEvents};
 
 use crate::connection::connect;
 use crate::disconnection::disconnect;
 use bind_parts::{
-    handle_to_clear, is_first_there, is_kept_from_drivers, is_passed_on, manager_on,
-    remove_interface, settle_all,
+    handle_to_clear, is_first_there, is_kept_from, is_passed_on, manager_on, remove_interface,
+    settle_all,
 };
-use driver_model::{Connection, Disconnection, Scope, Settings};
+use driver_model::bus_laws::drivers_may_uninstall;
+use driver_model::{Connection, Disconnection, Remover, Scope, Settings};
 use fw_types::{Handle, OutOfMemory, Status};
 use fw_world::World;
 use service_model::HandleInterface;
 use world_model::laws::{levels_are_free, marks_suffice};
 
-/// Uninstalls an interface, for a driver. The answer is the first of these that applies: NOT_FOUND if the
-/// handle does not have the interface; ACCESS_DENIED if the firmware owns it; OUT_OF_RESOURCES or
+/// Uninstalls an interface. The answer is the first of these that applies: NOT_FOUND if the handle
+/// does not have the interface, and for the firmware if another owns it; ACCESS_DENIED if a driver
+/// asks and the firmware owns it; OUT_OF_RESOURCES or
 /// ABORTED if the disconnect of the driver that manages the handle by it answers that; NOT_FOUND if
 /// the handle does not have the interface after it; ACCESS_DENIED if it is still open, and then the
 /// handle is connected again; and otherwise SUCCESS.
@@ -38,13 +42,15 @@ pub fn uninstall(
     settings: &Settings,
     room: u8,
     scope: Scope,
+    remover: Remover,
     i: &HandleInterface,
 ) -> Result<Status, OutOfMemory>
     requires room { room ≤ most_levels }
     requires free { is_free room (stacks world.old.now.soft) world.old.marks ≡ true }
     requires marks { has_marks 0 room world.old.marks ≡ true }
+    requires may_go { may_go remover i.now ≡ true }
     ensures now { IfOk result (λ status.
-        uninstalled plain settings.now (level_below settings.now room) scope ADriver i.now
+        uninstalled plain settings.now (level_below settings.now room) scope remover i.now
         world.old.now
         ≡ (status, world.new.now)) }
     ensures marks { OnOk result (world.new.marks ≡ world.old.marks) }
@@ -52,14 +58,14 @@ pub fn uninstall(
     ensures units { OnOk result (world.new.now.hard.units ≤ world.old.now.hard.units) }
     ensures events { OnOk result (NoFewerEvents world.old.now world.new.now) }
 {
-    if !is_first_there(world, i) {
+    if !is_first_there(world, remover, i) {
         return Ok(Status::NOT_FOUND);
     }
-    if is_kept_from_drivers(world, i) {
+    if is_kept_from(world, remover, i) {
         return Ok(Status::ACCESS_DENIED);
     }
     let status = release(world, settings, room, scope, i)?;
-    uninstall_released(world, settings, room, scope, i, status)
+    uninstall_released(world, settings, room, scope, remover, i, status)
 }
 
 /// Disconnects the driver that manages the handle by an interface, if one does.
@@ -102,14 +108,16 @@ fn uninstall_released(
     settings: &Settings,
     room: u8,
     scope: Scope,
+    remover: Remover,
     i: &HandleInterface,
     status: Status,
 ) -> Result<Status, OutOfMemory>
     requires room { room ≤ most_levels }
     requires free { is_free room (stacks world.old.now.soft) world.old.marks ≡ true }
     requires marks { has_marks 0 room world.old.marks ≡ true }
+    requires may_go { may_go remover i.now ≡ true }
     ensures now { IfOk result (λ last.
-        after_release plain settings.now (level_below settings.now room) scope ADriver i.now
+        after_release plain settings.now (level_below settings.now room) scope remover i.now
         (status, world.old.now)
         ≡ (last, world.new.now)) }
     ensures marks { OnOk result (world.new.marks ≡ world.old.marks) }
@@ -120,7 +128,7 @@ fn uninstall_released(
     if is_passed_on(status) {
         return Ok(status);
     }
-    let Some(handle) = handle_to_clear(world, i) else {
+    let Some(handle) = handle_to_clear(world, remover, i) else {
         return Ok(Status::NOT_FOUND);
     };
     world.drop_weak(handle, i.guid)?;
@@ -169,19 +177,21 @@ fn take_away(
 
 /// Uninstalls interfaces one after the other, as long as each succeeds. The answer is whether all did.
 #[cycle(engine)]
-fn uninstall_each(
+pub fn uninstall_each(
     world: &mut World,
     settings: &Settings,
     room: u8,
     scope: Scope,
+    remover: Remover,
     interfaces: &[HandleInterface],
 ) -> Result<bool, OutOfMemory>
     requires room { room ≤ most_levels }
     requires free { is_free room (stacks world.old.now.soft) world.old.marks ≡ true }
     requires marks { has_marks 0 room world.old.marks ≡ true }
+    requires may_go { list_all (may_go remover) interfaces.now ≡ true }
     ensures now { IfOk result (λ all.
-        each_uninstalled plain settings.now (level_below settings.now room) scope interfaces.now
-        world.old.now
+        each_uninstalled plain settings.now (level_below settings.now room) scope remover
+        interfaces.now world.old.now
         ≡ (all, world.new.now)) }
     ensures marks { OnOk result (world.new.marks ≡ world.old.marks) }
     ensures stacks { OnOk result (stacks world.new.now.soft ≡ stacks world.old.now.soft) }
@@ -189,7 +199,7 @@ fn uninstall_each(
     ensures events { OnOk result (NoFewerEvents world.old.now world.new.now) }
 {
     for i in interfaces {
-        let status = uninstall(world, settings, room, scope, i)?;
+        let status = uninstall(world, settings, room, scope, remover, i)?;
         if status != Status::SUCCESS {
             return Ok(false);
         }
@@ -227,6 +237,8 @@ pub fn uninstall_many(
     levels_are_free();
     marks_suffice();
     let mark = world.mark()?;
-    let all = uninstall_each(world, settings, room, scope, interfaces)?;
+    drivers_may_uninstall();
+    let by_driver = Remover::ADriver;
+    let all = uninstall_each(world, settings, room, scope, by_driver, interfaces)?;
     settle_all(world, mark, all)
 }

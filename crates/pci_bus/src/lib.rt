@@ -1,14 +1,17 @@
-//! The PCI bus driver of the firmware: how it makes a child of a root bridge.
+//! The PCI bus driver of the firmware: what it supports, and how it makes a child of a root bridge.
 //!
-//! A child is a handle for a function of the board. `path` has its device path, `blocks` its other
-//! blocks, and `child` makes it.
+//! `support` has what it says to a controller and to a path, and which functions it makes children
+//! for. A child is a handle for a function of the board. `path` has its device path, `blocks` its
+//! other blocks, and `child` makes it.
 #![tactic(auto)]
 
 mod blocks;
 mod child;
 mod path;
+mod support;
 
 pub use child::make_child;
+pub use support::{bus_start, bus_supported};
 
 #[cfg(test)]
 mod tests;

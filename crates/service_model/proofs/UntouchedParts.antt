@@ -333,3 +333,7 @@ looks-read o w =
 pub looks-spend-nothing : SpendsNothing
 unfolding looked_again
 looks-spend-nothing r w = end-hard (second_look r w) w (looks-read r w)
+
+pub looks-leave-lists : (o : Opening) (w : State) → (looked_again o w).1.soft.bus_lists ≡ w.soft.bus_lists
+unfolding looked_again
+looks-leave-lists o w = end-lists (second_look o w) w

@@ -1,11 +1,22 @@
-use Rattle.std.proofs.Common.{◌≡◌, ◌<◌, Some, sym, ◌∙◌, arith, rules, false, nat_eq, nat_lt}
+use Rattle.std.proofs.Common.{◌≡◌, ◌+◌, ◌-◌, ◌<◌, ◌∷◌, Some, sym, ap, ◌∙◌, arith, rules, true, false, nat_eq, nat_lt}
 use Rattle.std.proofs.lemmas.Bool.Decides.{nat_tests}
 use Rattle.fw_types.specs.declared.limits.TheConstants.{CALL_PRICE}
 use Rattle.fw_types.specs.declared.status.TheConstants.Status.{SUCCESS}
 use Rattle.guest_memory.specs.declared.address_map.TheConstants.{EXIT}
-use Rattle.driver_model.specs.Moves.{changed, pays}
+use Rattle.driver_model.specs.Moves.{changed, pays, plain}
+use Rattle.driver_model.specs.BusChildren.{interfaces_to_go, is_child_of}
+use Rattle.driver_model.specs.BusDriver.{blocks_freed, bus_stopped, roms_processed}
+use Rattle.driver_model.specs.UninstallWithReconnection.{each_uninstalled}
+use Rattle.driver_model.specs.declared.request.Remover.TheVariants.{TheFirmware}
+use Rattle.driver_model.specs.declared.bus_driver.TheConstants.{CHILD_PRICE}
 use Rattle.driver_model.specs.Levels.{level_with}
 use Rattle.engine.specs.AtLevel.{level_at, level_below}
+use Rattle.world_model.specs.BusChildren.{with_bus_list}
+use Rattle.world_model.specs.Levels.{has_marks}
+use Rattle.world_model.specs.Marks.{stacks}
+use Rattle.world_model.specs.World.{State, WorldView, on_soft}
+use Rattle.engine.proofs.BusDrivers.{below_none, below_some, images_all, images_next, no_child, one_child, rom_files, rom_none, roms_all, roms_next, stop_other, stop_paid, stop_short, stop_taken, stops_all}
+use Rattle.engine.proofs.Loads.{free_after_laying, on_ok, stacks_after_laying, stacks_of_mark}
 use Rattle.engine.proofs.Searches.{asked_all, asked_no, asked_yes, visited_all, visited_next}
 use Rattle.engine.proofs.Stops.{disconnected_is, turns_all, turns_next}
 use Rattle.engine.proofs.Turns.{through, thunk_is, thunk_nests, turn_taken}
@@ -121,14 +132,14 @@ disconnection::disconnect_in_event-returns-clause-now t c =
 pub uninstallation::uninstall_each-returns-then-ne-clause-now : goal.uninstallation::uninstall_each-returns-then-ne-clause-now
 uninstallation::uninstall_each-returns-then-ne-clause-now t c =
     sym c.loop-i.invariant.rest
-    ∙ each_ends c.args.settings.now (level_below c.args.settings.now c.args.room) c.args.scope c.args.interfaces.now c.loop-i.i-index c.i-item.result c.loop-i.world.now c.uninstall.new.world.now c.in_ok-status.status
+    ∙ each_ends c.args.settings.now (level_below c.args.settings.now c.args.room) c.args.scope c.args.remover c.args.interfaces.now c.loop-i.i-index c.i-item.result c.loop-i.world.now c.uninstall.new.world.now c.in_ok-status.status
     c.loop-i-test.true c.i-item.is c.in_ok-status.ensures.now
     (refused (nat_eq c.in_ok-status.status.0 SUCCESS.0) c.ne.result c.ne.ensures c.if-ne.true)
 
 pub uninstallation::uninstall_each-loop-i-preserved : goal.uninstallation::uninstall_each-loop-i-preserved
 uninstallation::uninstall_each-loop-i-preserved t c = record {
   rest =
-      sym (each_next c.args.settings.now (level_below c.args.settings.now c.args.room) c.args.scope c.args.interfaces.now c.loop-i.i-index c.i-item.result c.loop-i.world.now c.uninstall.new.world.now c.in_ok-status.status
+      sym (each_next c.args.settings.now (level_below c.args.settings.now c.args.room) c.args.scope c.args.remover c.args.interfaces.now c.loop-i.i-index c.i-item.result c.loop-i.world.now c.uninstall.new.world.now c.in_ok-status.status
       c.loop-i-test.true c.i-item.is c.in_ok-status.ensures.now
       (succeeded (nat_eq c.in_ok-status.status.0 SUCCESS.0) c.ne.result c.ne.ensures c.if-ne.false))
       ∙ c.loop-i.invariant.rest;
@@ -139,7 +150,145 @@ uninstallation::uninstall_each-loop-i-preserved t c = record {
 }
 
 pub uninstallation::uninstall_each-returns-clause-now : goal.uninstallation::uninstall_each-returns-clause-now
-uninstallation::uninstall_each-returns-clause-now t c = sym c.loop-i.invariant.rest ∙ each_all _ _ _ _ _ _ c.loop-i-test.false
+uninstallation::uninstall_each-returns-clause-now t c = sym c.loop-i.invariant.rest ∙ each_all _ _ _ _ _ _ _ c.loop-i-test.false
 
 pub uninstallation::uninstall_many-mark-requires : goal.uninstallation::uninstall_many-mark-requires
 uninstallation::uninstall_many-mark-requires t c = (c.marks_suffice.ensures.spare c.args.room c.args.world.now.now.soft c.args.world.now.marks c.requires.marks).1
+
+-- ---- loads
+
+pub image_load::lay_and_enter-mark-requires : goal.image_load::lay_and_enter-mark-requires
+image_load::lay_and_enter-mark-requires t c = (c.marks_suffice.ensures.spare (c.args.room + 1) c.args.world.now.now.soft c.args.world.now.marks c.requires.marks).1
+
+pub image_load::lay_and_enter-call_driver-requires : goal.image_load::lay_and_enter-call_driver-requires
+image_load::lay_and_enter-call_driver-requires t c =
+    let marking : c.lay_image.new.w.marks ≡ c.args.world.now.now.soft ∷ c.args.world.now.marks = c.in_ok-image.ensures.marks ∙ ap (λ (w : WorldView). w.marks) c.in_ok-mark.ensures.marked in
+    let free = free_after_laying (c.args.room + 1) c.args.world.now c.mark.new.self c.lay_image.new.w c.levels_are_free.ensures.marking c.requires.free c.in_ok-mark.ensures.marked c.in_ok-image.ensures.marks
+    (stacks_after_laying c.args.world.now c.mark.new.self c.lay_image.new.w c.args.view.now c.args.device c.stacks_stand.ensures.adding c.in_ok-mark.ensures.marked c.in_ok-image.ensures.now) in
+    let marks : has_marks 0 (c.args.room + 1) c.lay_image.new.w.marks ≡ true = rw marking (c.marks_suffice.ensures.spare (c.args.room + 1) c.args.world.now.now.soft c.args.world.now.marks c.requires.marks).0 in
+    (search rules, (c.requires.room, (free, (marks, omega arith))))
+
+pub image_load::lay_and_enter-settle_load-requires-clause-stacks : goal.image_load::lay_and_enter-settle_load-requires-clause-stacks
+image_load::lay_and_enter-settle_load-requires-clause-stacks t c =
+    stacks_of_mark c.args.world.now c.mark.new.self c.lay_image.new.w c.call_driver.new.world c.in_ok-mark.ensures.marked c.in_ok-image.ensures.marks c.in_ok-outcome.ensures.marks
+    (c.in_ok-outcome.ensures.stacks
+    ∙ stacks_after_laying c.args.world.now c.mark.new.self c.lay_image.new.w c.args.view.now c.args.device c.stacks_stand.ensures.adding c.in_ok-mark.ensures.marked c.in_ok-image.ensures.now)
+
+pub image_load::lay_and_enter-returns-clause-stacks : goal.image_load::lay_and_enter-returns-clause-stacks
+image_load::lay_and_enter-returns-clause-stacks t c =
+    on_ok c.settle_load.result
+    (λ (settled : stacks c.settle_load.new.world.now.soft ≡ stacks c.call_driver.new.world.now.soft).
+    settled ∙ c.in_ok-outcome.ensures.stacks
+    ∙ stacks_after_laying c.args.world.now c.mark.new.self c.lay_image.new.w c.args.view.now c.args.device c.stacks_stand.ensures.adding c.in_ok-mark.ensures.marked c.in_ok-image.ensures.now)
+    c.settle_load.ensures.stacks
+
+-- ---- the bus driver
+
+pub bus_driver::process_roms-loop-new_child-preserved : goal.bus_driver::process_roms-loop-new_child-preserved
+bus_driver::process_roms-loop-new_child-preserved t c = record {
+  rest =
+      sym (roms_next (level_at c.args.settings.now c.args.room) c.args.scope c.args.children.now c.loop-new_child.new_child-index c.new_child-item.result c.loop-new_child.world.now c.process_rom.new.world.now
+      c.loop-new_child-test.true c.new_child-item.is c.in_ok-process_rom.ensures.now)
+      ∙ c.loop-new_child.invariant.rest;
+  marks = c.in_ok-process_rom.ensures.marks ∙ c.loop-new_child.invariant.marks;
+  stacks = c.in_ok-process_rom.ensures.stacks ∙ c.loop-new_child.invariant.stacks;
+  units = omega (arith, c.in_ok-process_rom.ensures.units, c.loop-new_child.invariant.units);
+  events = omega (arith, c.in_ok-process_rom.ensures.events, c.loop-new_child.invariant.events);
+}
+
+pub bus_driver::process_roms-returns-clause-now : goal.bus_driver::process_roms-returns-clause-now
+bus_driver::process_roms-returns-clause-now t c = sym c.loop-new_child.invariant.rest ∙ roms_all _ _ _ _ _ c.loop-new_child-test.false
+
+pub bus_driver::process_below_last-returns-then-room-eq0-clause-now : goal.bus_driver::process_below_last-returns-then-room-eq0-clause-now
+bus_driver::process_below_last-returns-then-room-eq0-clause-now t c =
+    below_none c.args.settings.now c.args.room c.args.scope c.args.children.now c.args.world.now.now c.if-room-eq0.true
+
+pub bus_driver::process_below_last-returns-clause-now : goal.bus_driver::process_below_last-returns-clause-now
+bus_driver::process_below_last-returns-clause-now t c =
+    on_ok c.process_roms.result
+    (λ (is : roms_processed plain (level_at c.args.settings.now (c.args.room - 1)) c.args.scope c.args.children.now c.args.world.now.now ≡ c.process_roms.new.world.now).
+    below_some c.args.settings.now c.args.room c.args.scope c.args.children.now c.args.world.now.now (omega (arith, c.if-room-eq0.false)) ∙ is)
+    c.process_roms.ensures.now
+
+pub bus_driver::process_rom-returns-in_default-clause-now : goal.bus_driver::process_rom-returns-in_default-clause-now
+bus_driver::process_rom-returns-in_default-clause-now t c =
+    rom_none (level_at c.args.settings.now c.args.room) c.args.scope c.args.child.now c.args.world.now.now (sym c.in_ok-files.ensures ∙ c.in_default.is)
+
+pub bus_driver::process_rom-returns-clause-now : goal.bus_driver::process_rom-returns-clause-now
+bus_driver::process_rom-returns-clause-now t c =
+    on_ok c.set_bus_list.result
+    (λ (lists : c.set_bus_list.new.self.now ≡ on_soft (with_bus_list c.args.child.now.function c.in_ok-images.images.items) c.load_drivers.new.world.now).
+    rom_files (level_at c.args.settings.now c.args.room) c.args.scope c.args.child.now c.in-Some.files c.args.world.now.now c.load_drivers.new.world.now c.in_ok-images.images.items
+    (sym c.in_ok-files.ensures ∙ c.in-Some.is) (rw (c.as_slice.ensures) at c.in_ok-images.ensures.now)
+    ∙ sym lists)
+    c.set_bus_list.ensures.now
+
+pub bus_driver::load_drivers-loop-file-preserved : goal.bus_driver::load_drivers-loop-file-preserved
+bus_driver::load_drivers-loop-file-preserved t c = record {
+  rest =
+      sym (images_next (level_at c.args.settings.now c.args.room) c.args.scope c.args.device c.args.files.now c.loop-file.file-index c.file-item.result c.loop-file.images.items c.add_loaded.new.images.items
+      c.in_ok-load.load.note c.in_ok-load.load.status c.loop-file.world.now c.load_image.new.world.now
+      c.loop-file-test.true c.file-item.is (rw (c.as_slice.ensures, c.get.ensures.value) at c.in_ok-load.ensures.now) c.in_ok-add_loaded.ensures)
+      ∙ c.loop-file.invariant.rest;
+  marks = c.in_ok-load.ensures.marks ∙ c.loop-file.invariant.marks;
+  stacks = c.in_ok-load.ensures.stacks ∙ c.loop-file.invariant.stacks;
+  units = omega (arith, c.in_ok-load.ensures.units, c.loop-file.invariant.units);
+  events = omega (arith, c.in_ok-load.ensures.events, c.loop-file.invariant.events);
+}
+
+pub bus_driver::load_drivers-returns-clause-now : goal.bus_driver::load_drivers-returns-clause-now
+bus_driver::load_drivers-returns-clause-now t c = sym c.loop-file.invariant.rest ∙ images_all _ _ _ _ _ _ _ c.loop-file-test.false
+
+pub bus_driver::take_child-returns-then-left-lt-CHILD_PRICE-clause-now : goal.bus_driver::take_child-returns-then-left-lt-CHILD_PRICE-clause-now
+bus_driver::take_child-returns-then-left-lt-CHILD_PRICE-clause-now t c children =
+    let short : nat_lt c.args.world.now.now.hard.units CHILD_PRICE ≡ true = grind (arith, nat_tests, c.left.ensures, c.if-left-lt-CHILD_PRICE.true) in
+    stop_short c.args.settings.now (level_below c.args.settings.now c.args.room) c.args.scope c.args.controller c.args.child children c.args.world.now.now short
+
+pub bus_driver::take_child-returns-in_default-clause-now : goal.bus_driver::take_child-returns-in_default-clause-now
+bus_driver::take_child-returns-in_default-clause-now t c children =
+    let enough : nat_lt c.args.world.now.now.hard.units CHILD_PRICE ≡ false = grind (arith, nat_tests, c.left.ensures, c.if-left-lt-CHILD_PRICE.false) in
+    let paying : c.spend.new.self.now ≡ changed (pays CHILD_PRICE) c.args.world.now.now = search rules in
+    let paid =
+    stop_paid c.args.settings.now (level_below c.args.settings.now c.args.room) c.args.scope c.args.controller c.args.child children c.args.world.now.now c.spend.new.self.now enough paying in
+    paid
+    ∙ stop_other c.args.settings.now (level_below c.args.settings.now c.args.room) c.args.scope c.args.controller
+    (bus_stopped plain c.args.settings.now (level_below c.args.settings.now c.args.room) c.args.scope c.args.controller children) c.args.child c.spend.new.self.now
+    (no_child (is_child_of c.args.controller c.args.child c.spend.new.self.now) c.args.child (sym c.child_of_root.ensures ∙ c.in_default.is))
+
+pub bus_driver::take_child-returns-then-not-branch-clause-now : goal.bus_driver::take_child-returns-then-not-branch-clause-now
+bus_driver::take_child-returns-then-not-branch-clause-now t c children =
+    let enough : nat_lt c.args.world.now.now.hard.units CHILD_PRICE ≡ false = grind (arith, nat_tests, c.left.ensures, c.if-left-lt-CHILD_PRICE.false) in
+    let paying : c.spend.new.self.now ≡ changed (pays CHILD_PRICE) c.args.world.now.now = search rules in
+    let paid =
+    stop_paid c.args.settings.now (level_below c.args.settings.now c.args.room) c.args.scope c.args.controller c.args.child children c.args.world.now.now c.spend.new.self.now enough paying in
+    let found = one_child (is_child_of c.args.controller c.args.child c.spend.new.self.now) c.args.child c.in-Some.handle (sym c.child_of_root.ensures ∙ c.in-Some.is) in
+    let list : c.in_ok-interfaces.interfaces.items ≡ interfaces_to_go c.args.child c.spend.new.self.now.soft =
+    c.in_ok-interfaces.ensures.list ∙ ap (λ n. interfaces_to_go n c.spend.new.self.now.soft) found.1 in
+    let takes : each_uninstalled plain c.args.settings.now (level_below c.args.settings.now c.args.room) c.args.scope TheFirmware (interfaces_to_go c.args.child c.spend.new.self.now.soft) c.spend.new.self.now
+    ≡ (false, c.uninstall_each.new.world.now) =
+    rw (← list, ← c.deref.ensures.value) (c.in_ok-uninstall_each.ensures.now ∙ ap (λ all. (all, c.uninstall_each.new.world.now)) c.if-not-branch.true) in
+    paid
+    ∙ stop_taken c.args.settings.now (level_below c.args.settings.now c.args.room) c.args.scope c.args.controller
+    (bus_stopped plain c.args.settings.now (level_below c.args.settings.now c.args.room) c.args.scope c.args.controller children) c.args.child c.spend.new.self.now c.uninstall_each.new.world.now false found.0 takes
+
+pub bus_driver::take_child-returns-clause-now : goal.bus_driver::take_child-returns-clause-now
+bus_driver::take_child-returns-clause-now t c children =
+    let enough : nat_lt c.args.world.now.now.hard.units CHILD_PRICE ≡ false = grind (arith, nat_tests, c.left.ensures, c.if-left-lt-CHILD_PRICE.false) in
+    let paying : c.spend.new.self.now ≡ changed (pays CHILD_PRICE) c.args.world.now.now = search rules in
+    let paid =
+    stop_paid c.args.settings.now (level_below c.args.settings.now c.args.room) c.args.scope c.args.controller c.args.child children c.args.world.now.now c.spend.new.self.now enough paying in
+    let found = one_child (is_child_of c.args.controller c.args.child c.spend.new.self.now) c.args.child c.in-Some.handle (sym c.child_of_root.ensures ∙ c.in-Some.is) in
+    let list : c.in_ok-interfaces.interfaces.items ≡ interfaces_to_go c.args.child c.spend.new.self.now.soft =
+    c.in_ok-interfaces.ensures.list ∙ ap (λ n. interfaces_to_go n c.spend.new.self.now.soft) found.1 in
+    let takes : each_uninstalled plain c.args.settings.now (level_below c.args.settings.now c.args.room) c.args.scope TheFirmware (interfaces_to_go c.args.child c.spend.new.self.now.soft) c.spend.new.self.now
+    ≡ (true, c.uninstall_each.new.world.now) =
+    rw (← list, ← c.deref.ensures.value) (c.in_ok-uninstall_each.ensures.now ∙ ap (λ all. (all, c.uninstall_each.new.world.now)) c.if-not-branch.false) in
+    let freed : blocks_freed plain (interfaces_to_go c.args.child c.spend.new.self.now.soft) c.uninstall_each.new.world.now ≡ c.free_blocks.new.world.now =
+    rw (← list, ← c.deref-2.ensures.value) c.in_ok-free_blocks.ensures.now in
+    paid
+    ∙ stop_taken c.args.settings.now (level_below c.args.settings.now c.args.room) c.args.scope c.args.controller
+    (bus_stopped plain c.args.settings.now (level_below c.args.settings.now c.args.room) c.args.scope c.args.controller children) c.args.child c.spend.new.self.now c.uninstall_each.new.world.now true found.0 takes
+    ∙ ap (λ (w : State). bus_stopped plain c.args.settings.now (level_below c.args.settings.now c.args.room) c.args.scope c.args.controller children w) freed
+
+pub bus_driver::stop_bus-returns-clause-now : goal.bus_driver::stop_bus-returns-clause-now
+bus_driver::stop_bus-returns-clause-now t c = sym c.loop-child.invariant.rest ∙ stops_all _ _ _ _ _ _ _ c.loop-child-test.false

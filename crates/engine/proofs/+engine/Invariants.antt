@@ -2,6 +2,7 @@
 use Rattle.std.proofs.Common.{◌≡◌, ◌≤◌, ◌+◌, ◌*◌, false, [], length, drop}
 use Rattle.world_model.specs.Marks.{stacks}
 use Rattle.driver_model.specs.Moves.{plain}
+use Rattle.driver_model.specs.BusDriver.{bus_stopped, images_loaded, roms_processed}
 use Rattle.driver_model.specs.Connect.{asked, children_visited, search}
 use Rattle.driver_model.specs.Disconnect.{stop_turns}
 use Rattle.driver_model.specs.UninstallWithReconnection.{each_uninstalled}
@@ -114,6 +115,36 @@ decreases-disconnection::stop_drivers l = 32 * l.room + 21
 
 -- ---- loops: what is left from here comes to the whole, and beside it the world is as it was
 
+abbrev pub decreases-bus_driver::process_below_last : goal.decreases-bus_driver::process_below_last
+decreases-bus_driver::process_below_last l = 32 * l.room + 1
+
+abbrev pub decreases-bus_driver::start_bus : goal.decreases-bus_driver::start_bus
+decreases-bus_driver::start_bus l = 32 * l.room + 2
+
+abbrev pub decreases-bus_driver::take_child : goal.decreases-bus_driver::take_child
+decreases-bus_driver::take_child l = 32 * l.room + 7
+
+abbrev pub decreases-bus_driver::stop_bus : goal.decreases-bus_driver::stop_bus
+decreases-bus_driver::stop_bus l = 32 * l.room + 8
+
+abbrev pub decreases-image_load::lay_and_enter : goal.decreases-image_load::lay_and_enter
+decreases-image_load::lay_and_enter l = 32 * l.room + 18
+
+abbrev pub decreases-image_load::pay_and_enter : goal.decreases-image_load::pay_and_enter
+decreases-image_load::pay_and_enter l = 32 * l.room + 19
+
+abbrev pub decreases-image_load::load_image : goal.decreases-image_load::load_image
+decreases-image_load::load_image l = 32 * l.room + 20
+
+abbrev pub decreases-bus_driver::load_drivers : goal.decreases-bus_driver::load_drivers
+decreases-bus_driver::load_drivers l = 32 * l.room + 21
+
+abbrev pub decreases-bus_driver::process_rom : goal.decreases-bus_driver::process_rom
+decreases-bus_driver::process_rom l = 32 * l.room + 22
+
+abbrev pub decreases-bus_driver::process_roms : goal.decreases-bus_driver::process_roms
+decreases-bus_driver::process_roms l = 32 * l.room + 23
+
 abbrev pub invariant-guest_run::run_code-turns : goal.invariant-guest_run::run_code-turns
 invariant-guest_run::run_code-turns l = record {
   rest :
@@ -172,8 +203,41 @@ invariant-disconnection::stop_drivers-loop-agent l = record {
 abbrev pub invariant-uninstallation::uninstall_each-loop-i : goal.invariant-uninstallation::uninstall_each-loop-i
 invariant-uninstallation::uninstall_each-loop-i l = record {
   rest :
-      each_uninstalled plain l.settings (level_below l.settings l.room) l.scope (drop l.i-index l.interfaces) l.world.now
-      ≡ each_uninstalled plain l.fn.settings (level_below l.fn.settings l.fn.room) l.fn.scope l.fn.interfaces l.fn.world.now;
+      each_uninstalled plain l.settings (level_below l.settings l.room) l.scope l.remover (drop l.i-index l.interfaces) l.world.now
+      ≡ each_uninstalled plain l.fn.settings (level_below l.fn.settings l.fn.room) l.fn.scope l.fn.remover l.fn.interfaces l.fn.world.now;
+  marks : l.world.marks ≡ l.fn.world.marks;
+  stacks : stacks l.world.now.soft ≡ stacks l.fn.world.now.soft;
+  units : l.world.now.hard.units ≤ l.fn.world.now.hard.units;
+  events : length l.fn.world.now.hard.events ≤ length l.world.now.hard.events;
+}
+
+abbrev pub invariant-bus_driver::process_roms-loop-new_child : goal.invariant-bus_driver::process_roms-loop-new_child
+invariant-bus_driver::process_roms-loop-new_child l = record {
+  rest :
+      roms_processed plain (level_at l.settings l.room) l.scope (drop l.new_child-index l.children) l.world.now
+      ≡ roms_processed plain (level_at l.fn.settings l.fn.room) l.fn.scope l.fn.children l.fn.world.now;
+  marks : l.world.marks ≡ l.fn.world.marks;
+  stacks : stacks l.world.now.soft ≡ stacks l.fn.world.now.soft;
+  units : l.world.now.hard.units ≤ l.fn.world.now.hard.units;
+  events : length l.fn.world.now.hard.events ≤ length l.world.now.hard.events;
+}
+
+abbrev pub invariant-bus_driver::load_drivers-loop-file : goal.invariant-bus_driver::load_drivers-loop-file
+invariant-bus_driver::load_drivers-loop-file l = record {
+  rest :
+      images_loaded plain (level_at l.settings l.room) l.scope l.device (drop l.file-index l.files) l.images.items l.world.now
+      ≡ images_loaded plain (level_at l.fn.settings l.fn.room) l.fn.scope l.fn.device l.fn.files [] l.fn.world.now;
+  marks : l.world.marks ≡ l.fn.world.marks;
+  stacks : stacks l.world.now.soft ≡ stacks l.fn.world.now.soft;
+  units : l.world.now.hard.units ≤ l.fn.world.now.hard.units;
+  events : length l.fn.world.now.hard.events ≤ length l.world.now.hard.events;
+}
+
+abbrev pub invariant-bus_driver::stop_bus-loop-child : goal.invariant-bus_driver::stop_bus-loop-child
+invariant-bus_driver::stop_bus-loop-child l = record {
+  rest :
+      bus_stopped plain l.settings (level_below l.settings l.room) l.scope l.controller (drop l.child-index l.children) l.world.now
+      ≡ bus_stopped plain l.fn.settings (level_below l.fn.settings l.fn.room) l.fn.scope l.fn.controller l.fn.children l.fn.world.now;
   marks : l.world.marks ≡ l.fn.world.marks;
   stacks : stacks l.world.now.soft ≡ stacks l.fn.world.now.soft;
   units : l.world.now.hard.units ≤ l.fn.world.now.hard.units;

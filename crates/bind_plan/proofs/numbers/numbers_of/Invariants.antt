@@ -1,5 +1,5 @@
 use Rattle.std.proofs.Common.{◌≡◌, take}
-use Rattle.bind_parts.proofs.handles.numbers_of.Given as goal
+use Rattle.bind_plan.proofs.numbers.numbers_of.Given as goal
 
 -- the numbers so far
 abbrev pub invariant-loop-handle : goal.invariant-loop-handle
