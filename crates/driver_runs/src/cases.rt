@@ -1,17 +1,13 @@
 use anyhow::{Context, Result};
 use std::alloc::Global;
-use std::fs;
-use std::rt::Files;
 
 /// A case of the file: its name and its lines.
 ///
 /// A line `driver IMAGE PART ..` names an image file, and the listings of its code: `PART` is
-/// `drivers/PART.asm`, and each follows the one before. A line `file IMAGE LISTING` names an image
-/// file that the folder has, and its listing. A line `option-rom ROM LISTING` names the file of an
-/// option ROM that the folder has, and the listing of the driver in it. A line `board LINE` is a
-/// line of the board. All other lines are the report that is expected. The script is the lines of
-/// the board, and then what follows `> ` in the report. A case with lines `script FILE` and
-/// `report FILE` has the script and the report in these files.
+/// `drivers/PART.asm`, and each follows the one before. A line `rom-driver ROM PART .. + PART ..`
+/// names the file of an option ROM with such images, with a `+` between two of them. A line
+/// `board LINE` is a line of the board. All other lines are the report that is expected. The script
+/// is the lines of the board, and then what follows `> ` in the report.
 #[derive(Drop)]
 pub struct Case<'a> {
     pub name: &'a str,
@@ -45,12 +41,9 @@ impl Case<'_> {
     ///
     /// # Errors
     ///
-    /// A file that can't be read, and out of memory.
-    pub fn script<R: Files + AllocGlobal>(&self, rt: &R) -> Result<String> {
-        if let Some(file) = self.file_after("script ") {
-            return Ok(fs::read_to_string(rt, file)?);
-        }
-        let mut script = String::new(rt.alloc());
+    /// Out of memory.
+    pub fn script(&self, alloc: Global) -> Result<String> {
+        let mut script = String::new(alloc);
         self.add_after("board ", &mut script)?;
         self.add_after("> ", &mut script)?;
         Ok(script)
@@ -75,12 +68,9 @@ impl Case<'_> {
     ///
     /// # Errors
     ///
-    /// A file that can't be read, and out of memory.
-    pub fn report<R: Files + AllocGlobal>(&self, rt: &R) -> Result<String> {
-        if let Some(file) = self.file_after("report ") {
-            return Ok(fs::read_to_string(rt, file)?);
-        }
-        let mut report = String::new(rt.alloc());
+    /// Out of memory.
+    pub fn report(&self, alloc: Global) -> Result<String> {
+        let mut report = String::new(alloc);
         for line in self.lines.as_slice() {
             if !is_given(line) {
                 report.push_str(line)?;
@@ -89,22 +79,9 @@ impl Case<'_> {
         }
         Ok(report)
     }
-
-    /// The name of the file after these words, if a line begins with them.
-    fn file_after(&self, words: &str) -> Option<&str> {
-        for line in self.lines.as_slice() {
-            if let Some(file) = line.strip_prefix(words) {
-                return Some(file);
-            }
-        }
-        None
-    }
 }
 
 /// Whether a line names files or is a line of the board, so that it is no line of the report.
 fn is_given(line: &str) -> bool {
-    line.starts_with("driver ")
-        || line.starts_with("file ")
-        || line.starts_with("option-rom ")
-        || line.starts_with("board ")
+    line.starts_with("driver ") || line.starts_with("rom-driver ") || line.starts_with("board ")
 }

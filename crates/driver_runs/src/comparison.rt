@@ -1,4 +1,11 @@
-ghost use Rattle.std.specs.Prelude.{◌≡◌, ◌↔◌, IsNone};
+ghost use Rattle.std.specs.Prelude.{◌≡◌, ◌↔◌, IsNone, IsTrue};
+
+/// Whether two files have the same bytes.
+pub fn are_same(bytes: &[u8], expected: &[u8]) -> bool
+    ensures { IsTrue result ↔ (bytes.now ≡ expected.now) }
+{
+    bytes == expected
+}
 
 /// The number, from 1, of the first line at which two texts differ, or `None` if they are the same.
 pub fn first_difference(text: &str, expected: &str) -> Option<u64>

@@ -17,7 +17,7 @@ const BOOT_SERVICE_DRIVER: u16 = 11;
 /// The most bytes of a listing.
 const MOST_BYTES: usize = 0xFFFF_FFFF;
 
-/// The IDs and the class of the network controller that the option ROMs of the examples are for.
+/// The IDs and the class of the network controller that the option ROMs of the cases are for.
 const NETWORK_CONTROLLER: (u16, u16, u32) = (0x8086, 0x100E, 0x02_0000);
 
 /// The files of a case, each with its name.
@@ -31,21 +31,15 @@ impl ImageShelf {
     ///
     /// # Errors
     ///
-    /// A listing that is refused, an image or an option ROM that differs from the file that the
-    /// folder has, a file that can't be read, and out of memory.
+    /// A listing that is refused, a file that can't be read, and out of memory.
     pub fn of<R: Files + AllocGlobal>(rt: &R, case: &Case) -> Result<ImageShelf> {
         let mut files = Vec::new(rt.alloc());
         for line in case.lines.as_slice() {
             if let Some(words) = line.strip_prefix("driver ") {
                 files.push(driver_of(rt, words)?)?;
             }
-            if let Some(words) = line.strip_prefix("file ") {
-                let (name, image) = named_image(rt, words)?;
-                files.push(checked_file(rt, name, image)?)?;
-            }
-            if let Some(words) = line.strip_prefix("option-rom ") {
-                let (name, image) = named_image(rt, words)?;
-                files.push(checked_file(rt, name, rom_with(rt.alloc(), image)?)?)?;
+            if let Some(words) = line.strip_prefix("rom-driver ") {
+                files.push(driver_rom_of(rt, words)?)?;
             }
         }
         Ok(ImageShelf { files })
@@ -80,65 +74,58 @@ impl Shelf for ImageShelf {
     }
 }
 
-/// The image file of a line `driver`: its name, and the image of its parts one after the other.
+/// The image file of a line `driver`: its name, and the image of its parts.
 ///
 /// # Errors
 ///
 /// A listing that is refused, a file that can't be read, and out of memory.
 fn driver_of<R: Files + AllocGlobal>(rt: &R, words: &str) -> Result<(String, Vec<u8>)> {
-    let alloc = rt.alloc();
-    let mut words = words.split(' ');
-    let name = words.next().context("a driver without a name")?;
-    let mut listing = String::new(alloc);
-    for part in words {
-        let path = format!(in alloc; "drivers/{part}.asm")?;
-        let text = fs::read_to_string(rt, path.as_str()).context(format_args!("reading {path}"))?;
-        listing.push_str(text.as_str())?;
-    }
-    let image = image_of(alloc, listing.as_str()).context(format_args!("making {name}"))?;
-    Ok((name.to_string(alloc)?, image))
+    let (name, parts) = words.split_once(' ').context("a driver without a part")?;
+    let image = image_of_parts(rt, parts).context(format_args!("making {name}"))?;
+    Ok((name.to_string(rt.alloc())?, image))
 }
 
-/// The name of the file of a line `file` or `option-rom`, and the image of its listing.
+/// The file of a line `rom-driver`: its name, and the option ROM with its images.
 ///
 /// # Errors
 ///
 /// A listing that is refused, a file that can't be read, and out of memory.
-fn named_image<'a, R: Files + AllocGlobal>(rt: &R, words: &'a str) -> Result<(&'a str, Vec<u8>)> {
-    let (name, path) = words.split_once(' ').context("a file without a listing")?;
-    let listing = fs::read_to_string(rt, path).context(format_args!("reading {path}"))?;
-    let image = image_of(rt.alloc(), listing.as_str()).context(format_args!("making {name}"))?;
-    Ok((name, image))
+fn driver_rom_of<R: Files + AllocGlobal>(rt: &R, words: &str) -> Result<(String, Vec<u8>)> {
+    let (name, drivers) = words
+        .split_once(' ')
+        .context("an option ROM without a part")?;
+    let mut images = Vec::new(rt.alloc());
+    for parts in drivers.split(" + ") {
+        images.push(image_of_parts(rt, parts).context(format_args!("making {name}"))?)?;
+    }
+    let rom = rom_with(rt.alloc(), images.as_slice())?;
+    Ok((name.to_string(rt.alloc())?, rom))
 }
 
-/// A file with its name, which the folder has too.
+/// The image of parts, each of which follows the one before.
 ///
 /// # Errors
 ///
-/// A file that differs, one that can't be read, and out of memory.
-fn checked_file<R: Files + AllocGlobal>(
-    rt: &R,
-    name: &str,
-    bytes: Vec<u8>,
-) -> Result<(String, Vec<u8>)> {
-    let file = fs::read(rt, name).context(format_args!("reading {name}"))?;
-    ensure!(
-        file.as_slice() == bytes.as_slice(),
-        "the listing does not make {name}"
-    );
-    Ok((name.to_string(rt.alloc())?, bytes))
+/// A listing that is refused, a file that can't be read, and out of memory.
+fn image_of_parts<R: Files + AllocGlobal>(rt: &R, parts: &str) -> Result<Vec<u8>> {
+    let alloc = rt.alloc();
+    let mut listing = String::new(alloc);
+    for part in parts.split(' ') {
+        let path = format!(in alloc; "drivers/{part}.asm")?;
+        let text = fs::read_to_string(rt, path.as_str()).context(format_args!("reading {path}"))?;
+        listing.push_str(text.as_str())?;
+    }
+    image_of(alloc, listing.as_str())
 }
 
-/// An option ROM with one image.
+/// An option ROM with these images.
 ///
 /// # Errors
 ///
 /// An image that is too long, and out of memory.
-fn rom_with(alloc: Global, image: Vec<u8>) -> Result<Vec<u8>> {
+fn rom_with(alloc: Global, images: &[Vec<u8>]) -> Result<Vec<u8>> {
     let (vendor, device, class) = NETWORK_CONTROLLER;
-    let mut images = Vec::new(alloc);
-    images.push(image)?;
-    Ok(rom_of(alloc, vendor, device, class, images.as_slice())?)
+    Ok(rom_of(alloc, vendor, device, class, images)?)
 }
 
 /// The image of a listing, which is entered at its first instruction.
@@ -146,7 +133,7 @@ fn rom_with(alloc: Global, image: Vec<u8>) -> Result<Vec<u8>> {
 /// # Errors
 ///
 /// A listing that is refused or that makes no image, and out of memory.
-fn image_of(alloc: Global, listing: &str) -> Result<Vec<u8>> {
+pub fn image_of(alloc: Global, listing: &str) -> Result<Vec<u8>> {
     ensure!(listing.len() <= MOST_BYTES, "the listing is too long");
     let parts = DriverParts {
         code: Rows::of(assemble(alloc, listing)?),

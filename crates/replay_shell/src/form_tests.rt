@@ -30,7 +30,7 @@ fn answered(
 #[test]
 fn scripts_are_checked(rt: HostRuntime) -> Result<(), Fail> {
     // A script, and the status with its text. A load of a file that is absent is no refusal.
-    let cases: [(&str, u8, &str); 9] = [
+    let cases: [(&str, u8, &str); 10] = [
         ("root 0 0", 0, "ok\n"),
         ("", 0, "ok\n"),
         ("load none.efi\nconnect 9 all end 5\n", 0, "ok\n"),
@@ -42,6 +42,7 @@ fn scripts_are_checked(rt: HostRuntime) -> Result<(), Fail> {
         ("load a\u{7f}", 2, "script 1 NotAscii\n"),
         ("\n\nfly", 2, "script 3 UnknownWord\n"),
         ("connect", 2, "script 1 Missing\n"),
+        ("connect 3 some none", 2, "script 1 UnknownWord\n"),
         (
             "root 0 0\ndump\nfunc 0 3 0 0x8086 0x100e 0x020000",
             2,
@@ -77,25 +78,32 @@ fn files_that_are_no_script_are_not_checked(rt: HostRuntime) -> Result<(), Fail>
 
 #[test]
 fn loads_are_summed_up(rt: HostRuntime) -> Result<(), Fail> {
-    // The size of a load as it is written, and the status with its text. Each load of the driver
-    // makes an event and spends 82 units, and its image stays. Each connect makes two, since the PCI
-    // bus driver is asked and does not support the root bridge so far, and spends 64 for each; each
-    // disconnect makes one and spends 64. Beside the images there are three handles.
-    let cases: [(&str, u8, &str); 11] = [
+    // The size of a load as it is written, and the status with its text. A load of size N loads the
+    // driver N times, and then connects and disconnects N times. Each load of the driver makes an
+    // event and spends 82 units, and its image stays. A connect makes three events, one of them for
+    // Start of the PCI bus driver, which makes N children: 3 * 64 + 16 * N units. A disconnect takes
+    // them away again, for as much. So a load comes to N * (82 + 384 + 32 * N) units and 7 * N
+    // events. Beside the images there are three handles.
+    let cases: [(&str, u8, &str); 12] = [
         (
             "1",
             0,
-            "selftest 1 commands 3 units 274 events 4 handles 4\n",
+            "selftest 1 commands 3 units 498 events 7 handles 4\n",
         ),
         (
             "007",
             0,
-            "selftest 7 commands 21 units 1918 events 28 handles 10\n",
+            "selftest 7 commands 21 units 4830 events 49 handles 10\n",
         ),
         (
             "10",
             0,
-            "selftest 10 commands 30 units 2740 events 40 handles 13\n",
+            "selftest 10 commands 30 units 7860 events 70 handles 13\n",
+        ),
+        (
+            "64",
+            0,
+            "selftest 64 commands 192 units 160896 events 448 handles 67\n",
         ),
         ("0", 1, USAGE),
         ("257", 1, USAGE),
