@@ -5,3 +5,4 @@ pub mod PlaceLemmas
 pub mod ReadingLemmas
 pub mod TotalsLemmas
 pub mod MappingLemmas
+pub mod TakingBackLemmas

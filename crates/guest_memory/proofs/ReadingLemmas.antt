@@ -79,7 +79,7 @@ holder-own-more segment segments at bytes true is rest =
     rw has refl
 holder-own-more segment segments at bytes false is rest = rw is rest
 
-holder-own : (segments : List Segment) (at : ℕ) (bytes : List ℕ) → holder (put_bytes segments at bytes) at (length bytes) ≡ option_map (λ s. with_bytes s at bytes) (holder segments at (length bytes))
+pub holder-own : (segments : List Segment) (at : ℕ) (bytes : List ℕ) → holder (put_bytes segments at bytes) at (length bytes) ≡ option_map (λ s. with_bytes s at bytes) (holder segments at (length bytes))
 holder-own [] at bytes = refl
 holder-own (segment ∷ segments) at bytes =
     holder-own-more segment segments at bytes (has_bytes segment at (length bytes)) refl (holder-own segments at bytes)

@@ -6,7 +6,7 @@ use Rattle.std.proofs.lemmas.List.Sums.{sum_by-cons, sum_by-insert, sum_by-remov
 use Rattle.std.proofs.lemmas.Bool.Decides.{nat_tests}
 use Rattle.byteorder.specs.Endian.{little_bytes}
 use Rattle.guest_memory.specs.Segment.{has_bytes, is_block, with_bytes, extent, end_of, meets}
-use Rattle.guest_memory.specs.GuestMemory.{lie_from, overlaps, put_bytes, written, kind_number, total_of, block_count, is_full}
+use Rattle.guest_memory.specs.GuestMemory.{lie_from, overlaps, put_bytes, written, kind_number, total_of, block_count, is_full, mapped}
 use Rattle.guest_memory.specs.Places.{IsInOrder, IsFirstFrom, IsPlaceOf, totals_of, total_in, with_segment, without_segment, is_full_by}
 use Rattle.guest_memory.specs.declared.segment.Segment.{Segment}
 use Rattle.guest_memory.specs.declared.segment.SegKind.{SegKind}
@@ -204,6 +204,21 @@ in_order-mapped segments totals place base bytes kind is at room =
       apart = ap (lie_from 0) (mapped_where new segments place at) ∙ lie_from-mapped_apart new segments is.apart room;
       sums = ap (λ t. with_segment t kind (length bytes)) is.sums ∙ sym (totals_of-insert segments place base bytes kind);
     }
+
+-- so does one that was taken out, put back where the segments then lie in order
+pub put_back_size : (segments : List Segment) (place : ℕ) (new : Segment) → IsFirstFrom new.base segments place → lie_from 0 (mapped new segments) ≡ true → length new.bytes ≤ 2 ^ 63
+put_back_size segments place new at lie =
+    let lies : lie_from 0 (insert segments place new) ≡ true = ap (lie_from 0) (mapped_where new segments place at) ∙ lie in
+    let all : total_of (insert segments place new) new.kind ≤ 2 ^ 63 = total_bound (insert segments place new) new.kind lies in
+    let one : length new.bytes ≤ total_of (insert segments place new) new.kind = own_size new.kind (total_of (insert segments place new) new.kind) (total_of segments new.kind) (length new.bytes) (sym (more segments place new new.kind)) in
+    omega (arith, all, one)
+
+pub in_order-put_back : (segments : List Segment) (totals : Totals) (place : ℕ) (new : Segment) → IsInOrder segments totals → IsFirstFrom new.base segments place → lie_from 0 (mapped new segments) ≡ true
+    → IsInOrder (insert segments place new) (with_segment totals new.kind (length new.bytes))
+in_order-put_back segments totals place new is at lie = record {
+  apart = ap (lie_from 0) (mapped_where new segments place at) ∙ lie;
+  sums = ap (λ t. with_segment t new.kind (length new.bytes)) is.sums ∙ sym (totals_of-insert segments place new.base new.bytes new.kind);
+}
 
 pub in_order-removed : (segments : List Segment) (totals : Totals) (place base : ℕ) (gone : Segment) → IsInOrder segments totals → IsPlaceOf base segments place → get_or segments place gone ≡ gone
     → IsInOrder (remove segments place) (without_segment totals gone.kind (length gone.bytes))

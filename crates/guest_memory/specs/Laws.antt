@@ -68,3 +68,15 @@ MappedBeginsThere = (segments : List Segment) (new : Segment) → beginning_at (
 abbrev pub MappedTakesBackUnmapped : Type 0
 MappedTakesBackUnmapped = (segments : List Segment) (base : ℕ) (segment : Segment) → lie_from 0 segments ≡ true → beginning_at segments base ≡ Ok segment
     → mapped segment (unmapped segments base) ≡ segments
+
+-- ---- bytes of before
+
+-- Bytes that were put are taken back by those that were there before, if a segment has the range.
+abbrev pub PutTakesBackPut : Type 0
+PutTakesBackPut = (segments : List Segment) (at : ℕ) (bytes : List ℕ) → is_some (holder segments at (length bytes)) ≡ true
+    → put_bytes (put_bytes segments at bytes) at (bytes_of segments at (length bytes)) ≡ segments
+
+-- So is a number that was written.
+abbrev pub PutTakesBackWritten : Type 0
+PutTakesBackWritten = (segments : List Segment) (at n value : ℕ) → is_some (holder segments at n) ≡ true
+    → put_bytes (written segments at n value) at (bytes_of segments at n) ≡ segments

@@ -1,6 +1,6 @@
 //! Laws of guest memory, over its definitions alone. Each is the contract of a function with no code.
 
-ghost use Rattle.guest_memory.specs.Laws.{BytesReadBack, MappedBeginsThere, MappedTakesBackUnmapped, NoTwoMeet, NumberReadsBack, OneHasAByte, OtherBytesStay, OtherNumbersStay, SegmentsStay, SegmentsStayAsBytesArePut, UnmappedTakesBackMapped};
+ghost use Rattle.guest_memory.specs.Laws.{BytesReadBack, MappedBeginsThere, MappedTakesBackUnmapped, NoTwoMeet, NumberReadsBack, OneHasAByte, OtherBytesStay, OtherNumbersStay, PutTakesBackPut, PutTakesBackWritten, SegmentsStay, SegmentsStayAsBytesArePut, UnmappedTakesBackMapped};
 
 /// Of segments in order no two meet, and at most one has a byte.
 pub fn segments_lie_apart()
@@ -31,4 +31,10 @@ pub fn mapping_is_taken_back()
     ensures rest { UnmappedTakesBackMapped }
     ensures segment { MappedBeginsThere }
     ensures unmapped { MappedTakesBackUnmapped }
+{}
+
+/// The bytes of before, put where others were put or a number was written, take that back.
+pub fn writing_is_taken_back()
+    ensures put { PutTakesBackPut }
+    ensures written { PutTakesBackWritten }
 {}

@@ -1,4 +1,4 @@
-ghost use Rattle.std.specs.Prelude.{◌≡◌, refl, [], IsTrue, OnOk, OnErr, IfOk, is_ok, length, option_map, replicate, if◌then◌else◌};
+ghost use Rattle.std.specs.Prelude.{◌≡◌, refl, [], true, IsTrue, OnOk, OnErr, IfOk, is_ok, length, option_map, replicate, if◌then◌else◌};
 ghost use Rattle.guest_memory.specs.Segment.{is_access};
 ghost use Rattle.guest_memory.specs.GuestMemory.{write_answer, written, is_readable, is_writable_range, bytes_of, put_bytes, image_with, lie_from, total_of, block_count, is_full, map_answer, mapped, beginning_at, begins, unmapped, Gives};
 ghost use Rattle.guest_memory.specs.Places.{IsInOrder};
@@ -74,6 +74,25 @@ impl Memory {
         if self.totals.is_full(kind, size) {
             return Err(MemRefusal::Full);
         }
+        self.segments.insert(place, segment)?;
+        self.totals.add(kind, size);
+        Ok(())
+    }
+
+    /// Puts a segment in its place by address, where no limit is asked: it was taken out by `unmap`, and
+    /// passed the limits as it was mapped. With it, the segments lie in order and none meets another.
+    ///
+    /// # Errors
+    ///
+    /// `OutOfMemory` if memory runs out. The memory is then as before, and the segment is gone.
+    pub fn put_back(&mut self, segment: Segment) -> Result<(), OutOfMemory>
+        requires { lie_from 0 (mapped segment self.old) ≡ true }
+        ensures ok { OnOk result (self.new ≡ mapped segment self.old) }
+        ensures err { OnErr result (self.new ≡ self.old) }
+    {
+        let place = place_from(self.segments.as_slice(), segment.base);
+        let kind = segment.kind;
+        let size = segment.bytes.as_slice().len() as u64;
         self.segments.insert(place, segment)?;
         self.totals.add(kind, size);
         Ok(())
@@ -206,19 +225,6 @@ impl Memory {
         }
     }
 
-    /// An equal memory.
-    ///
-    /// # Errors
-    ///
-    /// `OutOfMemory` if memory runs out.
-    pub fn copy(&self) -> Result<Memory, OutOfMemory>
-        ensures { IfOk result (λ copy. copy ≡ self.now) }
-    {
-        let alloc = *self.segments.allocator();
-        let segments = copy_of(alloc, self.segments.as_slice())?;
-        Ok(Memory::of(segments, self.totals))
-    }
-
     /// A memory of segments in order with their totals, of which none was used yet.
     fn of(segments: Vec<Segment>, totals: Totals) -> Memory
         requires { IsInOrder segments.items totals }
@@ -290,20 +296,4 @@ fn write_in(
         }
         None => Err(MemRefusal::NoSegment),
     }
-}
-
-/// Copies of all segments.
-fn copy_of(alloc: Global, segments: &[Segment]) -> Result<Vec<Segment>, OutOfMemory>
-    ensures { IfOk result (λ copies. copies.items ≡ segments.now) }
-{
-    let mut copies = Vec::with_capacity(alloc, segments.len())?;
-    for segment in segments {
-        let bytes = Rows::of(Vec::from_slice(alloc, segment.bytes.as_slice())?);
-        copies.push(Segment {
-            base: segment.base,
-            bytes,
-            kind: segment.kind,
-        })?;
-    }
-    Ok(copies)
 }

@@ -231,16 +231,15 @@ fn code(rt: HostRuntime) -> Result<(), Fail> {
 }
 
 #[test]
-fn copying_and_unmapping(rt: HostRuntime) -> Result<(), Fail> {
+fn unmapping(rt: HostRuntime) -> Result<(), Fail> {
     let mut memory = three_segments(&rt)?;
-    let copy = memory.copy()?;
+    assert_eq!(rt; memory.read(0x1010, 1), Some(0x22));
     let image = memory.unmap(0x1010)?;
     assert_eq!(rt; (image.base, image.kind), (0x1010, SegKind::Image));
     assert_eq!(rt; image.bytes.as_slice(), [0x22; 0x14].as_slice());
     assert_eq!(rt; memory.unmap(0x1001).err(), Some(MemRefusal::NoSegment));
     assert_eq!(rt; memory.read(0x1010, 1), None);
-    assert_eq!(rt; copy.read(0x1010, 1), Some(0x22));
-    assert_eq!(rt; copy.total(SegKind::Table), 0x10);
+    assert_eq!(rt; memory.total(SegKind::Table), 0x10);
     Ok(())
 }
 
@@ -265,5 +264,30 @@ fn most_blocks(rt: HostRuntime) -> Result<(), Fail> {
         memory.map(0x1_0010_0000, more, SegKind::Pool),
         Err(MemRefusal::Full)
     );
+    Ok(())
+}
+
+/// A `copy` and a `clone` of this test's own.
+trait Absent {
+    fn copy(&self) -> u64;
+
+    fn clone(&self) -> u64;
+}
+
+impl Absent for Memory {
+    fn copy(&self) -> u64 {
+        1
+    }
+
+    fn clone(&self) -> u64 {
+        2
+    }
+}
+
+/// A memory has no call that copies it, and is not Clone: else these would not be the calls of `Absent`.
+#[test]
+fn no_copies(rt: HostRuntime) -> Result<(), Fail> {
+    let memory = Memory::new(rt.alloc());
+    assert_eq!(rt; (memory.copy(), memory.clone()), (1, 2));
     Ok(())
 }
