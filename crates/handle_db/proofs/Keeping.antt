@@ -3,7 +3,7 @@ use Rattle.std.proofs.Common.{◌≡◌, ◌<◌, ◌≤◌, ℕ, suc, ◌+◌, 
 use Rattle.std.specs.List.{list_any, list_all}
 use Rattle.std.proofs.lemmas.List.{length-map}
 use Rattle.std.proofs.lemmas.List.Folds.{list_any-append, list_all-append}
-use Rattle.std.proofs.lemmas.Bool.{and_parts, and_from, leb-true, le-leb, lt-ltb, leb-false, eqb-true, not-true, both_ways, cases_Bool}
+use Rattle.std.proofs.lemmas.Bool.{and_parts, and_from, leb-true, le-leb, lt-ltb, leb-false, eqb-true, not-false, not-true, both_ways, cases_Bool}
 use Rattle.std.proofs.lemmas.Slice.Eq.{bytes_eq-Decides}
 use Rattle.fw_types.specs.declared.limits.TheConstants.{HANDLE_NUMBER_END, MOST_INTERFACES}
 use Rattle.handle_db.specs.Database.{Database, IsSound, differ, has, has_any, interfaces_in, interfaces_of, is_below, is_guid, is_handle, is_kept, is_live, rise_from, unless}
@@ -19,7 +19,7 @@ use Rattle.handle_db.proofs.Order.{below-map, below_more, list_all-filter, none_
 
 -- ---- the entry that is changed
 
-bytes_eq-sym : (xs ys : List ℕ) → bytes_eq xs ys ≡ false → bytes_eq ys xs ≡ false
+pub bytes_eq-sym : (xs ys : List ℕ) → bytes_eq xs ys ≡ false → bytes_eq ys xs ≡ false
 bytes_eq-sym xs ys h = elim (cases_Bool (bytes_eq ys xs)) [
   | inl same ↦ absurd (both_ways (bytes_eq xs ys) h ((bytes_eq-Decides xs ys).1 (sym ((bytes_eq-Decides ys xs).0 same))))
   | inr other ↦ other
@@ -69,7 +69,7 @@ kept_parts entry kept =
     let limits = and_parts (has_any entry) (nat_le (length entry.interfaces) MOST_INTERFACES) parts.0 in
     record { some = limits.0; few = leb-true _ _ limits.1; apart = parts.1 }
 
-kept_from : (entry : HandleEntry) → Kept entry.interfaces → is_kept entry ≡ true
+pub kept_from : (entry : HandleEntry) → Kept entry.interfaces → is_kept entry ≡ true
 kept_from entry kept =
     and_from (has_any entry && nat_le (length entry.interfaces) MOST_INTERFACES) (differ entry.interfaces)
     (and_from (has_any entry) (nat_le (length entry.interfaces) MOST_INTERFACES) kept.some (le-leb _ _ kept.few)) kept.apart
@@ -157,6 +157,11 @@ room_for_interface handle guid db ok =
     let new = first_passed (has handle guid db) Already ((nat_le MOST_INTERFACES (length (interfaces_of handle db)), Full) ∷ []) handle live.1 in
     let room = first_passed (nat_le MOST_INTERFACES (length (interfaces_of handle db))) Full [] handle new.1 in
     record { none = new.0; room = leb-false MOST_INTERFACES (length (interfaces_of handle db)) room.0 }
+
+-- and the handle is live
+pub live_for_interface : (handle : ℕ) (guid : List ℕ) (db : Database) → is_ok (install_answer (Some handle) guid db) ≡ true → is_live handle db ≡ true
+live_for_interface handle guid db ok =
+    not-false (is_live handle db) (first_passed (not (is_live handle db)) BadHandle ((has handle guid db, Already) ∷ (nat_le MOST_INTERFACES (length (interfaces_of handle db)), Full) ∷ []) handle ok).0
 
 installed-handle : (new : Interface) (db : Database) → IsSound db → is_full db ≡ false → IsSound (installed None new db)
 installed-handle new db sound room =

@@ -2,3 +2,9 @@ pub mod OnlyOne
 pub mod Order
 pub mod Keeping
 pub mod Changes
+pub mod RemovalBack
+pub mod InstallBack
+pub mod UndoKeeps
+pub mod IndexLemmas
+pub mod HasAfter
+pub mod NamedLemmas

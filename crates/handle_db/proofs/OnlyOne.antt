@@ -22,7 +22,7 @@ map-changed-none test f (x ∷ xs) none =
     let parts = or_parts (test x) (list_any test xs) none in
     rw (parts.0, map-changed-none test f xs parts.1) refl
 
-filter-none : {X : Type 0} (test : X → Bool) (xs : List X) → list_any test xs ≡ false → filter (λ (x : X). not (test x)) xs ≡ xs
+pub filter-none : {X : Type 0} (test : X → Bool) (xs : List X) → list_any test xs ≡ false → filter (λ (x : X). not (test x)) xs ≡ xs
 filter-none test [] none = refl
 filter-none test (x ∷ xs) none =
     let parts = or_parts (test x) (list_any test xs) none in
@@ -35,7 +35,7 @@ find-none test (x ∷ xs) none =
     let parts = or_parts (test x) (list_any test xs) none in
     rw parts.0 (find-none test xs parts.1)
 
-find-after : {X : Type 0} (test : X → Bool) (front : List X) (x : X) (back : List X) → list_any test front ≡ false → test x ≡ true → find test (front ++ x ∷ back) ≡ Some x
+pub find-after : {X : Type 0} (test : X → Bool) (front : List X) (x : X) (back : List X) → list_any test front ≡ false → test x ≡ true → find test (front ++ x ∷ back) ≡ Some x
 find-after test [] x back none passes = rw passes refl
 find-after test (y ∷ front) x back none passes =
     let parts = or_parts (test y) (list_any test front) none in

@@ -7,10 +7,11 @@ use Rattle.std.specs.Ordering.{nat_cmp, ordering_index}
 use Rattle.std.proofs.lemmas.Cmp.{ranked}
 use Rattle.std.proofs.lemmas.List.{get_or-take, length-take}
 use Rattle.std.proofs.lemmas.List.Sorted.{IsNonDecreasingBy-from_default}
-use Rattle.std.proofs.lemmas.Bool.{and_parts, and_from, leb-true, le-leb, ltb-true, lt-ltb, ne_eqb, eq-eqb}
+use Rattle.std.proofs.lemmas.List.Folds.{list_any_at}
+use Rattle.std.proofs.lemmas.Bool.{both_ways, and_parts, and_from, leb-true, le-leb, ltb-true, lt-ltb, ne_eqb, eq-eqb}
 use Rattle.std.proofs.lemmas.Bool.Decides.{nat_tests}
 use Rattle.handle_db.specs.Database.{is_handle, is_below, rise_from}
-use Rattle.handle_db.specs.Places.{IsPlaceOf}
+use Rattle.handle_db.specs.Places.{IsPlaceOf, IsRoomFor}
 use Rattle.handle_db.specs.declared.handle_entry.HandleEntry.{HandleEntry}
 use Rattle.handle_db.proofs.OnlyOne.{IsOnly, none_pass, split_at}
 
@@ -67,6 +68,21 @@ module _ (entries : List HandleEntry) (rise : rise_from 1 entries ≡ true) (han
         let high : at ≤ k → handle < handle_at entries k = λ le. ranked _ handle _ (sym ((parted comparisons_rise).1 k nobody le h)) in
         ne_eqb (handle_at entries k) handle (apart k at (handle_at entries k) low high));
   }
+
+  -- where no handle has the number, the search ends between the lesser and the greater ones
+  pub room_searched : (at : ℕ) → IsSearchInRange (Err at) (length entries) → IsBinarySearchResult (λ (entry : HandleEntry). nat_cmp entry.handle handle) entries (Err at) → IsRoomFor handle entries at
+  room_searched at within parted = record {
+    within = within;
+    before = λ k other lt. ranked _ handle _ (sym ((parted comparisons_rise).0 k other (omega arith) lt));
+    after = λ k other le h. ranked _ handle _ (sym ((parted comparisons_rise).1 k other le h));
+  }
+
+  -- or the number is that of a handle
+  pub not_absent : (at : ℕ) → IsSearchInRange (Ok at) (length entries) → IsBinarySearchResult (λ (entry : HandleEntry). nat_cmp entry.handle handle) entries (Ok at) → list_any (is_handle handle) entries ≡ false → IsRoomFor handle entries at
+  not_absent at within equal none =
+      let there : list_any (is_handle handle) entries ≡ true =
+      list_any_at (is_handle handle) entries at nobody within (eq-eqb (handle_at entries at) handle (ranked _ handle _ (sym (equal nobody)))) in
+      absurd (both_ways (list_any (is_handle handle) entries) none there)
 
 -- ---- one handle among them
 

@@ -44,8 +44,12 @@ interface_of handle guid db =
 abbrev pub has_guid : List ℕ → HandleEntry → Bool
 has_guid guid entry = list_any (is_guid guid) entry.interfaces
 
+-- the same of a handle among others
+abbrev pub has_in : ℕ → List ℕ → List HandleEntry → Bool
+has_in handle guid entries = list_any (is_guid guid) (interfaces_in (find (is_handle handle) entries))
+
 abbrev pub has : ℕ → List ℕ → Database → Bool
-has handle guid db = list_any (is_guid guid) (interfaces_of handle db)
+has handle guid db = has_in handle guid db.handles
 
 abbrev pub numbers : List HandleEntry → List ℕ
 numbers entries = map (λ (entry : HandleEntry). entry.handle) entries

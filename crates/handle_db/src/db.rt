@@ -1,22 +1,24 @@
-ghost use Rattle.std.specs.Prelude.{◌≡◌, ◌≤◌, ◌<◌, [], true, IfOk, IfErr, OnOk, OnErr, None, Some, Ok, Err, filter, length, nat_eq, remove, slice_index_or, slice_set};
-ghost use Rattle.std.specs.List.{list_all};
-ghost use Rattle.handle_db.specs.Database.{Gives, IsSound, first_with, handles_with, has, has_any, interface_of, interfaces_of, is_live, protocols_of};
-ghost use Rattle.handle_db.specs.Installing.{appended, install_answer, installed, is_full};
+ghost use Rattle.std.specs.Prelude.{◌≡◌, ◌≤◌, [], IfOk, IfErr, OnOk, OnErr, None, Some, Ok, Err, length};
+ghost use Rattle.handle_db.specs.Database.{Gives, IsSound, first_with, handles_with, has, interface_of, interfaces_of, is_live, protocols_of};
+ghost use Rattle.handle_db.specs.Installing.{install_answer, installed, is_full};
 ghost use Rattle.handle_db.specs.OwnedInterfaces.{is_owned_by, without_owned};
 ghost use Rattle.handle_db.specs.Removing.{remove_answer, removed};
-ghost use Rattle.handle_db.specs.Places.{IsPlaceOf, removed_at};
-ghost use Rattle.handle_db.specs.declared.handle_entry.HandleEntry.{HandleEntry as EntryValue};
+ghost use Rattle.handle_db.specs.Undoing.{HasRoomFor, IsInstalledLast, install_undone, remove_undone};
+ghost use Rattle.handle_db.specs.Places.{IsPlaceOf};
 ghost use Rattle.handle_db.specs.declared.handle_entry.Interface.{Interface as InterfaceValue};
 
+use crate::changing::{append_at, drop_at, entry_with, put_back, removal, take_at};
 use crate::handle_entry::{HandleEntry, Interface};
 use crate::owned::{drop_empty, drop_owned};
 use crate::places::{
-    all_handles, copies_of, count_that_have, entry_of, first_that_has, handles_that_have, has_guid,
-    has_no_room, interface_in, interface_place, place_of, protocols_in,
+    all_handles, entry_of, has_guid, has_no_room, interface_in, interface_place, place_of,
+    protocols_in,
 };
+use crate::protocol_index::{ProtocolIndex, count_named, first_named, keep_named, named_handles};
 use crate::refusal::{DbRefusal, Removed};
-use fw_types::{Guid, HANDLE_NUMBER_END, Handle, MOST_INTERFACES, OutOfMemory, Rows};
+use fw_types::{Guid, HANDLE_NUMBER_END, Handle, MOST_INTERFACES, OutOfMemory};
 use std::alloc::Global;
+use std::collections::BTreeSet;
 use std::marker::Model;
 
 /// The handles that are live, by rising number, each with its interfaces in order of installation
@@ -29,12 +31,15 @@ use std::marker::Model;
 pub struct Db {
     alloc: Global,
     handles: Vec<HandleEntry>,
+    // names each handle with each of its protocols
+    index: ProtocolIndex,
     next: Handle,
     limit: u32,
 }
 
 impl Model for Db {
-    ghost use Rattle.handle_db.specs.Database.{Database, IsSound};
+    ghost use Rattle.handle_db.specs.Database.{Database};
+    ghost use Rattle.handle_db.specs.ProtocolIndex.{IsInside};
 
     ghost Value = { Database };
 
@@ -44,7 +49,7 @@ impl Model for Db {
       limit = inside.limit;
     } };
 
-    ghost invariant = { λ inside. IsSound (record {
+    ghost invariant = { λ inside. IsInside inside.index (record {
       handles = inside.handles.items;
       next = inside.next;
       limit = inside.limit;
@@ -60,6 +65,7 @@ impl Db {
         Db {
             alloc,
             handles: Vec::new(alloc),
+            index: BTreeSet::new(alloc),
             next: Handle::firmware(),
             limit,
         }
@@ -127,7 +133,55 @@ impl Db {
         let count = interfaces.len();
         let interface = take_at(&mut self.handles, at, place);
         drop_at(&mut self.handles, at);
+        self.index.remove(&(guid, handle));
         Ok(removal(&interface, place, count))
+    }
+
+    /// Takes an installation back: the last of a handle's interfaces, which is of a protocol, goes. `made`
+    /// says whether the handle was made for it; then it is the handle's only one, the handle is the newest,
+    /// and it goes too, so that its number is the next one again. Else the handle has others. Takes no
+    /// memory.
+    pub fn undo_install(&mut self, handle: Handle, guid: Guid, made: bool)
+        requires { IsInstalledLast handle guid made self.old }
+        ensures { self.new ≡ install_undone handle guid made self.old }
+    {
+        self.soundness();
+        let _removed = self.remove(handle, guid);
+        if made {
+            self.next = handle;
+        }
+    }
+
+    /// Takes a removal back: the interface of a protocol that was removed from a handle stands again at its
+    /// place. If the handle went with it, the handle is live again, with its number. The database is as the
+    /// removal left it.
+    ///
+    /// # Errors
+    ///
+    /// `OutOfMemory` if there is no memory for the interface. The database is then as before.
+    pub fn undo_remove(
+        &mut self,
+        handle: Handle,
+        guid: Guid,
+        removed: &Removed,
+    ) -> Result<(), OutOfMemory>
+        requires { HasRoomFor handle guid removed.now self.old }
+        ensures ok { OnOk result (self.new ≡ remove_undone handle guid removed.now self.old) }
+        ensures err { OnErr result (self.new ≡ self.old) }
+    {
+        let interface = Interface {
+            guid,
+            interface: removed.interface,
+            owner: removed.owner,
+        };
+        let naming = (guid, handle);
+        self.index.insert(naming)?;
+        let place = removed.place as usize;
+        if put_back(self.alloc, &mut self.handles, handle, place, interface).is_err() {
+            self.index.remove(&naming);
+            return Err(OutOfMemory);
+        }
+        Ok(())
     }
 
     /// Removes the interfaces that go with an image (UEFI 2.8, 7.4: UnloadImage): those that it owns,
@@ -138,6 +192,7 @@ impl Db {
     {
         drop_owned(&mut self.handles, image, own);
         drop_empty(&mut self.handles);
+        keep_named(&mut self.index, self.handles.as_slice());
     }
 
     /// Whether a number is that of a live handle. No live handle has the number 0. Takes no memory.
@@ -194,7 +249,7 @@ impl Db {
         ensures few { IfOk result (λ handles. length handles.items ≤ self.now.limit) }
     {
         match guid {
-            Some(guid) => handles_that_have(self.alloc, self.handles.as_slice(), guid),
+            Some(guid) => named_handles(self.alloc, &self.index, guid, self.next),
             None => all_handles(self.alloc, self.handles.as_slice()),
         }
     }
@@ -206,7 +261,7 @@ impl Db {
         // reading the limit shows that it fits in 32 bits
         let _most = self.limit;
         match guid {
-            Some(guid) => count_that_have(self.handles.as_slice(), guid) as u32,
+            Some(guid) => count_named(&self.index, guid, self.next) as u32,
             None => self.handles.len() as u32,
         }
     }
@@ -217,7 +272,8 @@ impl Db {
     pub fn first_with(&self, guid: Guid) -> Option<(u64, Handle)>
         ensures { result ≡ first_with guid self.now }
     {
-        let entry = first_that_has(self.handles.as_slice(), guid)?;
+        let handle = first_named(&self.index, guid, self.next)?;
+        let entry = entry_of(self.handles.as_slice(), handle.get())?;
         let found = interface_in(entry.interfaces.as_slice(), guid)?;
         Some((found.interface, found.owner))
     }
@@ -265,23 +321,6 @@ impl Db {
         }
     }
 
-    /// An equal database.
-    ///
-    /// # Errors
-    ///
-    /// `OutOfMemory` if there is no memory for it.
-    pub fn copy(&self) -> Result<Db, OutOfMemory>
-        ensures { IfOk result (λ copy. copy ≡ self.now) }
-    {
-        let handles = copies_of(self.alloc, self.handles.as_slice())?;
-        Ok(Db {
-            alloc: self.alloc,
-            handles,
-            next: self.next,
-            limit: self.limit,
-        })
-    }
-
     /// Says what holds of every database and does nothing: handle numbers rise and lie below the next
     /// one, each handle has an interface and no protocol twice, and no limit is passed.
     pub fn soundness(&self)
@@ -300,9 +339,11 @@ impl Db {
             return Err(DbRefusal::Full);
         }
         let handle = self.next;
-        let mut interfaces = Rows::of(Vec::new(self.alloc));
-        interfaces.push(interface)?;
-        self.handles.push(HandleEntry { handle, interfaces })?;
+        let naming = (interface.guid, handle);
+        let entry = entry_with(self.alloc, handle, interface)?;
+        self.handles.reserve(1)?;
+        self.index.insert(naming)?;
+        self.handles.push_reserved(entry);
         self.next = handle.next();
         Ok(handle)
     }
@@ -314,7 +355,12 @@ impl Db {
         ensures err { OnErr result (self.new ≡ self.old) }
     {
         let place = self.room_at(handle, interface.guid)?;
-        append_at(&mut self.handles, place, interface)?;
+        let naming = (interface.guid, handle);
+        self.index.insert(naming)?;
+        if append_at(&mut self.handles, place, interface).is_err() {
+            self.index.remove(&naming);
+            return Err(DbRefusal::OutOfMemory);
+        }
         Ok(handle)
     }
 
@@ -335,62 +381,5 @@ impl Db {
             return Err(DbRefusal::Full);
         }
         Ok(place)
-    }
-}
-
-/// Puts an interface after those of the handle at a place.
-fn append_at(
-    entries: &mut Vec<HandleEntry>,
-    place: usize,
-    interface: Interface,
-) -> Result<(), OutOfMemory>
-    requires { place < length entries.old.items }
-    ensures ok { (other : EntryValue) → let entry = slice_index_or entries.old.items place other in
-        OnOk result (entries.new.items ≡ slice_set entries.old.items place (appended interface entry)) }
-    ensures err { OnErr result (entries.new.items ≡ entries.old.items) }
-{
-    let entry = &mut entries[place];
-    entry.interfaces.push(interface)
-}
-
-/// Takes out the interface at a place of the handle at a place.
-fn take_at(entries: &mut Vec<HandleEntry>, at: usize, place: usize) -> Interface
-    requires handle { at < length entries.old.items }
-    requires interface { (other : EntryValue) → place < length (slice_index_or entries.old.items at other).interfaces }
-    ensures taken { (other : EntryValue) → let entry = slice_index_or entries.old.items at other in
-        result ≡ slice_index_or entry.interfaces place result }
-    ensures rest { (other : EntryValue) → let entry = slice_index_or entries.old.items at other in
-        entries.new.items ≡ slice_set entries.old.items at (removed_at place entry) }
-{
-    let entry = &mut entries[at];
-    entry.interfaces.remove(place)
-}
-
-/// What is answered of an interface that was at a place among a number of interfaces of its handle.
-fn removal(interface: &Interface, place: usize, count: usize) -> Removed
-    requires { place < MOST_INTERFACES }
-    ensures { result ≡ record {
-      interface = interface.now.interface;
-      owner = interface.now.owner;
-      place = place;
-      gone = nat_eq count 1;
-    } }
-{
-    Removed {
-        interface: interface.interface,
-        owner: interface.owner,
-        place: place as u32,
-        gone: count == 1,
-    }
-}
-
-/// Takes out the handle at a place if it has no interface. All other handles have one.
-fn drop_at(entries: &mut Vec<HandleEntry>, at: usize)
-    requires within { at < length entries.old.items }
-    requires others { list_all has_any (remove entries.old.items at) ≡ true }
-    ensures { entries.new.items ≡ filter has_any entries.old.items }
-{
-    if entries[at].interfaces.as_slice().is_empty() {
-        entries.remove(at);
     }
 }

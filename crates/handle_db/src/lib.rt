@@ -2,19 +2,26 @@
 //!
 //! A contract sees a `Db` as the record `Database`: the handles by rising number, each with its
 //! interfaces in order of installation, the number of the next new handle, and how many handles may be
-//! live. `Db`'s calls are those of the database services, and `laws` says what their changes keep.
+//! live. `Db`'s calls are those of the database services, and two that take an installation or a removal
+//! back; `laws` says what the changes keep, and that what is taken back leaves the database of before.
+//! Handles are found by halving, and those that have a protocol by an index.
 #![tactic(auto)]
 
+mod changing;
 mod db;
 mod handle_entry;
 mod laws;
 mod owned;
 mod places;
+mod protocol_index;
 mod refusal;
 
 pub use db::Db;
 pub use handle_entry::{HandleEntry, Interface};
-pub use laws::{installing_keeps, removing_keeps, removing_owned_keeps};
+pub use laws::{
+    installing_is_undone, installing_keeps, removing_is_undone, removing_keeps,
+    removing_owned_keeps, undoing_install_keeps, undoing_remove_keeps,
+};
 pub use refusal::{DbRefusal, Removed};
 
 #[cfg(test)]

@@ -1,7 +1,7 @@
 ghost use Rattle.std.specs.Prelude.{◌≡◌, ◌<◌, ◌≤◌, find, map, filter, false, true, is_some, length, nat_le, option_copied, IfSome, IfNone, IfOk};
 ghost use Rattle.std.specs.List.{list_any, position};
 ghost use Rattle.handle_db.specs.Database.{has_guid as has_protocol, is_guid, is_handle, numbers, rise_from};
-ghost use Rattle.handle_db.specs.Places.{IsPlaceOf};
+ghost use Rattle.handle_db.specs.Places.{IsPlaceOf, IsRoomFor};
 
 use crate::handle_entry::{HandleEntry, Interface};
 use fw_types::{Guid, Handle, MOST_INTERFACES, OutOfMemory, Rows};
@@ -16,6 +16,17 @@ pub fn place_of(entries: &[HandleEntry], handle: u64) -> Option<usize>
     entries
         .binary_search_by_key(&handle, |entry| entry.handle.get())
         .ok()
+}
+
+/// The place that a handle would have among entries with rising handle numbers.
+pub fn room_for(entries: &[HandleEntry], handle: u64) -> usize
+    requires { rise_from 1 entries.now ≡ true }
+    ensures { list_any (is_handle handle) entries.now ≡ false → IsRoomFor handle entries.now result }
+{
+    match entries.binary_search_by_key(&handle, |entry| entry.handle.get()) {
+        Ok(place) => place,
+        Err(place) => place,
+    }
 }
 
 /// The entry of a handle among entries with rising handle numbers.
@@ -65,46 +76,6 @@ pub fn all_handles(alloc: Global, entries: &[HandleEntry]) -> Result<Vec<Handle>
     Ok(entries.iter().map(|entry| entry.handle).collect(alloc)?)
 }
 
-/// The numbers of the handles that have a protocol.
-pub fn handles_that_have(
-    alloc: Global,
-    entries: &[HandleEntry],
-    guid: Guid,
-) -> Result<Vec<Handle>, OutOfMemory>
-    ensures { IfOk result (λ handles. handles.items ≡ numbers (filter (has_protocol guid) entries.now)) }
-{
-    Ok(
-        entries
-            .iter()
-            .filter(|entry| has_guid(entry.interfaces.as_slice(), guid))
-            .map(|entry| entry.handle)
-            .collect(alloc)?,
-    )
-}
-
-/// How many handles have a protocol.
-pub fn count_that_have(entries: &[HandleEntry], guid: Guid) -> usize
-    ensures value { result ≡ length (numbers (filter (has_protocol guid) entries.now)) }
-    ensures few { result ≤ length entries.now }
-{
-    let mut count = 0;
-    for entry in entries {
-        if has_guid(entry.interfaces.as_slice(), guid) {
-            count += 1;
-        }
-    }
-    count
-}
-
-/// The first entry whose handle has a protocol.
-pub fn first_that_has(entries: &[HandleEntry], guid: Guid) -> Option<&HandleEntry>
-    ensures { option_copied result ≡ find (has_protocol guid) entries.now }
-{
-    entries
-        .iter()
-        .find(|entry| has_guid(entry.interfaces.as_slice(), guid))
-}
-
 /// The protocols of a handle's interfaces, each with the interface's address and its owner.
 pub fn protocols_in(
     alloc: Global,
@@ -119,19 +90,4 @@ pub fn protocols_in(
             .map(|one| (one.guid, one.interface, one.owner))
             .collect(alloc)?,
     )
-}
-
-/// Copies of all entries.
-pub fn copies_of(alloc: Global, entries: &[HandleEntry]) -> Result<Vec<HandleEntry>, OutOfMemory>
-    ensures { IfOk result (λ copies. copies.items ≡ entries.now) }
-{
-    let mut copies = Vec::with_capacity(alloc, entries.len())?;
-    for entry in entries {
-        let interfaces = Rows::of(Vec::from_slice(alloc, entry.interfaces.as_slice())?);
-        copies.push(HandleEntry {
-            handle: entry.handle,
-            interfaces,
-        })?;
-    }
-    Ok(copies)
 }

@@ -2,7 +2,7 @@ ghost use Rattle.std.specs.Prelude.{◌≡◌};
 ghost use Rattle.handle_db.specs.declared.refusal.DbRefusal.TheVariants.{OutOfMemory as NoMemory};
 
 use fw_types::{Handle, OutOfMemory};
-use std::alloc::AllocFailed;
+use std::alloc::{AllocError, AllocFailed};
 use thiserror::Error;
 
 /// Why an interface was not installed or removed.
@@ -29,6 +29,14 @@ impl From<OutOfMemory> for DbRefusal {
     ghost from_gives = { λ _ refusal. refusal ≡ NoMemory };
 
     fn from(_error: OutOfMemory) -> DbRefusal {
+        DbRefusal::OutOfMemory
+    }
+}
+
+impl From<AllocError> for DbRefusal {
+    ghost from_gives = { λ _ refusal. refusal ≡ NoMemory };
+
+    fn from(_error: AllocError) -> DbRefusal {
         DbRefusal::OutOfMemory
     }
 }

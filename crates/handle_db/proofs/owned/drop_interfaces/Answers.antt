@@ -1,6 +1,5 @@
 use Rattle.std.proofs.Common.{rules, ap, List}
 use Rattle.std.proofs.lemmas.Fn.{filter_same}
-use Rattle.handle_db.specs.declared.handle_entry.HandleEntry.{HandleEntry}
 use Rattle.handle_db.specs.declared.handle_entry.Interface.{Interface}
 use Rattle.handle_db.proofs.owned.drop_interfaces.Goals as goal
 

@@ -1,4 +1,4 @@
-use Rattle.std.proofs.Common.{◌≡◌, ◌<◌, ◌∙◌, ap, arith, get_or, length, set, sym}
+use Rattle.std.proofs.Common.{◌≡◌, ◌∙◌, ap, set, sym}
 use Rattle.std.proofs.lemmas.List.Edits.{map_over_more}
 use Rattle.handle_db.specs.OwnedInterfaces.{without_interfaces_of}
 use Rattle.handle_db.specs.declared.handle_entry.HandleEntry.{HandleEntry}

@@ -1,7 +1,7 @@
 use Rattle.std.proofs.Common.{◌≡◌, true, false, not, ap, ◌∙◌}
 use Rattle.handle_db.specs.Database.{has_any}
 use Rattle.handle_db.proofs.Changes.{empty_is, gone_at, stays_at}
-use Rattle.handle_db.proofs.db.drop_at.Goals as goal
+use Rattle.handle_db.proofs.changing.drop_at.Goals as goal
 
 -- the entry without interfaces goes
 pub returns-then-is_empty : goal.returns-then-is_empty
