@@ -1,7 +1,7 @@
 -- Entering an open leaves a sound table.
-use Rattle.std.proofs.Common.{◌≡◌, ℕ, ◌+◌, ◌-◌, Bool, true, false, not, ◌&&◌, ◌||◌, nat_eq, nat_le, nat_lt, min, List, [], ◌∷◌, ◌++◌, length, map, filter, find, take, drop, Option, Some, None, refl, sym, ap, ◌∙◌, inl, inr, append_assoc, arith, length-append, if◌then◌else◌}
+use Rattle.std.proofs.Common.{◌≡◌, ℕ, ◌+◌, Bool, true, false, not, ◌&&◌, ◌||◌, nat_eq, nat_le, nat_lt, min, List, [], ◌∷◌, ◌++◌, length, map, filter, find, Option, Some, None, refl, sym, ap, ◌∙◌, inl, inr, append_assoc, arith, length-append, if◌then◌else◌}
 use Rattle.std.specs.List.{list_any, list_all}
-use Rattle.std.proofs.lemmas.List.{length-map, map-append}
+use Rattle.std.proofs.lemmas.List.{length-map}
 use Rattle.std.proofs.lemmas.List.Folds.{list_any-append, list_all-append}
 use Rattle.std.proofs.lemmas.Bool.{and_parts, and_from, or_parts, or_from, not-true, both_ways, cases_Bool, lt-ltb, leb-false}
 use Rattle.std.proofs.lemmas.Cmp.{nat_eq_equiv, nat_list_eq_equiv}
@@ -10,13 +10,13 @@ use Rattle.fw_types.specs.declared.attr.TheConstants.Attr.{HOLDING_BITS}
 use Rattle.open_records.specs.OpenRecords.{RecordTable, IsSound, clash, falls, is_after, is_before, is_equal, is_kept, is_of, is_strong, records_of, rise, stand_apart}
 use Rattle.open_records.specs.Verdicts.{Rule, against, applies, judge, may_enter, rules, says}
 use Rattle.open_records.specs.declared.verdict.Verdict.TheVariants.{Add, Count}
-use Rattle.open_records.specs.Adding.{added, first, is_full, most, raised, with_new, with_open, with_raised}
-use Rattle.open_records.specs.Places.{IsRange, raised_here}
+use Rattle.open_records.specs.Adding.{added, first, is_full, most, raised, with_new, with_raised}
+use Rattle.open_records.specs.Table.{IsNew}
 use Rattle.open_records.specs.declared.open_record.KeyedRecord.{KeyedRecord}
 use Rattle.open_records.specs.declared.open_record.Rec.{Rec}
-use Rattle.open_records.proofs.ListLemmas.{any_filtered, any_same, map_itself, map_where, no_pair-insert, no_pair-map}
-use Rattle.open_records.proofs.Order.{before_is_after, before-not_after, before-not_here, after-not_before, after-not_here, here-not_after}
-use Rattle.open_records.proofs.RangeLemmas.{range_front, range_rest, range_slice, range_upto, three_parts}
+use Rattle.open_records.proofs.ListLemmas.{any_filtered, any_same, no_pair-insert, no_pair-map}
+use Rattle.open_records.proofs.Order.{before_is_after, before-not_after, after-not_before, here-not_after}
+use Rattle.open_records.proofs.RangeLemmas.{three_parts}
 
 -- ---- the verdict
 
@@ -70,9 +70,20 @@ free : (records : List Rec) (agent controller attr : ℕ) → may_enter (judge r
     → list_any (λ (rec : Rec). (has_bit_of HOLDING_BITS attr && is_strong rec) || is_equal agent controller attr rec) records ≡ false
 free records agent controller attr enters none = free_by (has_bit_of HOLDING_BITS attr) records agent controller attr enters none
 
+-- where an open may be entered and no record is equal, its record is new
+pub new_record : (handle : ℕ) (guid : List ℕ) (agent controller attr : ℕ) (rec : Rec) (entries after : List KeyedRecord) → rec ≡ first agent controller attr → after ≡ entries
+    → may_enter (judge (records_of entries handle guid) agent controller attr) ≡ true → list_any (is_equal agent controller attr) (records_of entries handle guid) ≡ false
+    → IsNew (record { handle = handle; guid = guid; rec = rec }) after
+new_record handle guid agent controller attr rec entries after is same enters none =
+    rw (is, same)
+    (record {
+      unequal = none;
+      holder = λ strong. by_holder (find is_strong (records_of entries handle guid)) (records_of entries handle guid) agent attr refl (rw strong at enters);
+    })
+
 -- ---- clashes
 
-any_of_filter : {X Y : Type 0} (f : X → Y) (p : X → Bool) (q : Y → Bool) (xs : List X) → list_any q (map f (filter p xs)) ≡ false → list_any (λ x. p x && q (f x)) xs ≡ false
+pub any_of_filter : {X Y : Type 0} (f : X → Y) (p : X → Bool) (q : Y → Bool) (xs : List X) → list_any q (map f (filter p xs)) ≡ false → list_any (λ x. p x && q (f x)) xs ≡ false
 any_of_filter f p q [] none = refl
 any_of_filter f p q (x ∷ xs) none = elim (cases_Bool (p x)) [
   | inl passes ↦
@@ -150,10 +161,6 @@ module _ (handle : ℕ) (guid : List ℕ) (rec : Rec) (entries : List KeyedRecor
       let whole : length entries ≡ length front + length back = ap length all_between ∙ length-append front back in
       ap length new_between ∙ omega (arith, whole, length-append front (new ∷ back))
 
-  -- as the code puts it in
-  pub inserted : (start end : ℕ) → IsRange handle guid entries start end → take end entries ++ new ∷ drop end entries ≡ with_new new entries
-  inserted start end range = rw (range_upto handle guid entries rising start end range, range_rest handle guid entries rising start end range) (sym new_between)
-
 -- ---- a count that rises
 
 abbrev raised_if : Bool → KeyedRecord → KeyedRecord
@@ -192,49 +199,6 @@ raised_sound handle guid test table sound =
       kept = all-raised chosen table.entries sound.kept;
       few = omega (arith, length-map table.entries (λ (one : KeyedRecord). raised_if (chosen one) one), sound.few);
     }
-
--- as the code raises it, among the records of the interface
-module _ (handle : ℕ) (guid : List ℕ) (test : Rec → Bool) where
-  away : (b c : Bool) (one : KeyedRecord) → b ≡ false → raised_if (b && c) one ≡ one
-  away true c one off = absurd cc
-  away false c one off = refl
-
-  inside : (b c : Bool) (one : KeyedRecord) → b ≡ true → raised_if (b && c) one ≡ record one { rec = if c then raised one.rec else one.rec }
-  inside true true one on = refl
-  inside true false one on = refl
-  inside false c one on = absurd cc
-
-  pub raised_between : (entries : List KeyedRecord) → rise entries ≡ true → with_raised handle guid test entries ≡ filter (is_before handle guid) entries ++ (map (raised_here test) (filter (is_of handle guid) entries) ++ filter (is_after handle guid) entries)
-  raised_between entries rising =
-      let f : KeyedRecord → KeyedRecord = λ one. raised_if (is_of handle guid one && test one.rec) one in
-      let front = filter (is_before handle guid) entries in
-      let mid = filter (is_of handle guid) entries in
-      let back = filter (is_after handle guid) entries in
-      let in_front : map f front ≡ front = map_itself (is_before handle guid) f entries (λ one before. away (is_of handle guid one) (test one.rec) one (before-not_here handle guid one before)) in
-      let in_back : map f back ≡ back = map_itself (is_after handle guid) f entries (λ one after. away (is_of handle guid one) (test one.rec) one (after-not_here handle guid one after)) in
-      let in_mid : map f mid ≡ map (raised_here test) mid = map_where (is_of handle guid) f (raised_here test) entries (λ one on. inside (is_of handle guid one) (test one.rec) one on) in
-      ap (map f) (three_parts handle guid entries rising) ∙ map-append f front (mid ++ back) ∙ ap (λ l. map f front ++ l) (map-append f mid back) ∙ rw (in_front, in_mid, in_back) refl
-
--- ---- as the code enters it
-
-module _ (handle : ℕ) (guid : List ℕ) (rec : Rec) (entries : List KeyedRecord) (rising : rise entries ≡ true) (start end : ℕ) (range : IsRange handle guid entries start end) where
-  abbrev equal : Rec → Bool
-  equal = is_equal rec.agent rec.controller rec.attr
-
-  -- whether an equal record is in the range is whether the interface has one
-  pub equal_found : list_any equal (map (λ (one : KeyedRecord). one.rec) (take (end - start) (drop start entries))) ≡ list_any equal (records_of entries handle guid)
-  equal_found = ap (λ l. list_any equal (map (λ (one : KeyedRecord). one.rec) l)) (range_slice handle guid entries rising start end range)
-
-  pub raised_open : list_any equal (records_of entries handle guid) ≡ true → take start entries ++ (map (raised_here equal) (take (end - start) (drop start entries)) ++ drop end entries) ≡ with_open handle guid rec.agent rec.controller rec.attr entries
-  raised_open found =
-      let here : with_open handle guid rec.agent rec.controller rec.attr entries ≡ with_raised handle guid equal entries = rw found refl in
-      rw (range_front handle guid entries rising start end range, range_slice handle guid entries rising start end range, range_rest handle guid entries rising start end range) (sym (here ∙ raised_between handle guid equal entries rising))
-
-  pub inserted_open : rec.count ≡ 1 → list_any equal (records_of entries handle guid) ≡ false → take end entries ++ record { handle = handle; guid = guid; rec = rec } ∷ drop end entries ≡ with_open handle guid rec.agent rec.controller rec.attr entries
-  inserted_open once none =
-      let same : rec ≡ first rec.agent rec.controller rec.attr = ap (λ n. record rec { count = n }) once in
-      let here : with_open handle guid rec.agent rec.controller rec.attr entries ≡ with_new (record { handle = handle; guid = guid; rec = first rec.agent rec.controller rec.attr }) entries = rw none refl in
-      inserted handle guid rec entries rising start end range ∙ ap (λ (r : Rec). with_new (record { handle = handle; guid = guid; rec = r }) entries) same ∙ sym here
 
 -- ---- one more open
 

@@ -171,7 +171,7 @@ module _ (handle : ℕ) (guid : List ℕ) (rec : Rec) (entries : List KeyedRecor
   last : filter (is_of handle guid) (new ∷ back) ≡ new ∷ []
   last = rw (of_itself new, none_after) refl
 
-  new_here : records_of (with_new new entries) handle guid ≡ records_of entries handle guid ++ rec ∷ []
+  pub new_here : records_of (with_new new entries) handle guid ≡ records_of entries handle guid ++ rec ∷ []
   new_here =
       let mine = filter (is_of handle guid) front in
       let more : filter (is_of handle guid) (with_new new entries) ≡ mine ++ new ∷ [] =
@@ -180,7 +180,7 @@ module _ (handle : ℕ) (guid : List ℕ) (rec : Rec) (entries : List KeyedRecor
       ap (filter (is_of handle guid)) (all_between handle guid rec entries rising) ∙ filter-append (is_of handle guid) front back ∙ ap (λ l. mine ++ l) none_after ∙ append-nil mine in
       ap (map (λ (o : KeyedRecord). o.rec)) more ∙ map-append (λ (o : KeyedRecord). o.rec) mine (new ∷ []) ∙ ap (λ l. map (λ (o : KeyedRecord). o.rec) l ++ rec ∷ []) (sym before)
 
-  new_elsewhere : (other_handle : ℕ) (other_guid : List ℕ) → is_same handle guid other_handle other_guid ≡ false → records_of (with_new new entries) other_handle other_guid ≡ records_of entries other_handle other_guid
+  pub new_elsewhere : (other_handle : ℕ) (other_guid : List ℕ) → is_same handle guid other_handle other_guid ≡ false → records_of (with_new new entries) other_handle other_guid ≡ records_of entries other_handle other_guid
   new_elsewhere other_handle other_guid differ =
       let test : KeyedRecord → Bool = is_of other_handle other_guid in
       let skips : filter test (new ∷ back) ≡ filter test back = rw differ refl in
@@ -318,7 +318,7 @@ module _ (name handle : ℕ) (guid : List ℕ) where
   same gone = is_same gone.0 gone.1 handle guid
 
   -- one more record before the others
-  counted : (here : Bool) (before : List KeyedRecord) (one : KeyedRecord) → is_of handle guid one ≡ here → length (records_of (before ++ one ∷ []) handle guid) ≡ length (records_of before handle guid) + (if here then 1 else 0)
+  pub counted : (here : Bool) (before : List KeyedRecord) (one : KeyedRecord) → is_of handle guid one ≡ here → length (records_of (before ++ one ∷ []) handle guid) ≡ length (records_of before handle guid) + (if here then 1 else 0)
   counted true before one is =
       let more : filter (is_of handle guid) (before ++ one ∷ []) ≡ filter (is_of handle guid) before ++ one ∷ [] = filter-append (is_of handle guid) before (one ∷ []) ∙ rw is refl in
       ap (λ l. length (map (λ (o : KeyedRecord). o.rec) l)) more

@@ -6,3 +6,16 @@ pub mod RemovalLemmas
 pub mod DistinctNumbers
 pub mod ManagingLemmas
 pub mod LawProofs
+pub mod StoreLemmas
+pub mod ListsLemmas
+pub mod FlatLemmas
+pub mod TableLemmas
+pub mod SlabFacts
+pub mod NamingLemmas
+pub mod FindLemmas
+pub mod CountLemmas
+pub mod LoopLemmas
+pub mod PlaceLemmas
+pub mod PuttingBackLemmas
+pub mod CountingBackLemmas
+pub mod WalkLemmas

@@ -16,10 +16,10 @@ use Rattle.open_records.specs.OpenRecords.{interface_order, is_of, is_before, is
 use Rattle.open_records.specs.declared.open_record.KeyedRecord.{KeyedRecord}
 use Rattle.open_records.proofs.ListLemmas.{any_at}
 
-abbrev key_order : ℕ × List ℕ → ℕ × List ℕ → Ordering
+abbrev pub key_order : ℕ × List ℕ → ℕ × List ℕ → Ordering
 key_order x y = interface_order x.0 x.1 y.0 y.1
 
-total : IsTotalOrder key_order
+pub total : IsTotalOrder key_order
 total = then_total (on_total (λ (key : ℕ × List ℕ). key.0) nat_cmp_total) (on_total (λ (key : ℕ × List ℕ). key.1) nat_list_cmp_total)
 
 lt-reverse : (o : Ordering) → is_lt (ordering_reverse o) ≡ is_gt o
@@ -28,7 +28,7 @@ lt-reverse Equal = refl
 lt-reverse Greater = refl
 
 -- one comes before another exactly if the other comes after it
-flipped : (x y : ℕ × List ℕ) → is_lt (key_order x y) ≡ is_gt (key_order y x)
+pub flipped : (x y : ℕ × List ℕ) → is_lt (key_order x y) ≡ is_gt (key_order y x)
 flipped x y = ap is_lt (total.antisymm x y) ∙ lt-reverse (key_order y x)
 
 pub before_is_after : (one new : KeyedRecord) → is_before one.handle one.guid new ≡ is_after new.handle new.guid one
@@ -49,10 +49,10 @@ after_later handle guid one later rises holds =
 
 -- ---- the three ways to stand
 
-eq-nat_cmp : (x y : ℕ) (o : Ordering) → is_eq (ordering_then (nat_cmp x y) o) ≡ (nat_eq x y && is_eq o)
+pub eq-nat_cmp : (x y : ℕ) (o : Ordering) → is_eq (ordering_then (nat_cmp x y) o) ≡ (nat_eq x y && is_eq o)
 eq-nat_cmp x y o = grind (arith, nat_tests)
 
-of_is_eq : (handle : ℕ) (guid : List ℕ) (one : KeyedRecord) → is_of handle guid one ≡ is_eq (interface_order one.handle one.guid handle guid)
+pub of_is_eq : (handle : ℕ) (guid : List ℕ) (one : KeyedRecord) → is_of handle guid one ≡ is_eq (interface_order one.handle one.guid handle guid)
 of_is_eq handle guid one =
     sym (eq-nat_cmp one.handle handle (slice_cmp nat_cmp one.guid guid) ∙ ap (λ b. nat_eq one.handle handle && b) (is_eq-slice_cmp one.guid guid))
 

@@ -6,3 +6,8 @@ pub mod Managing
 pub mod Parties
 pub mod Places
 pub mod Laws
+pub mod Store
+pub mod Flat
+pub mod Table
+pub mod Removal
+pub mod PuttingBack

@@ -1,15 +1,18 @@
 -- Records by their places, as the code reaches them.
-use Rattle.std.specs.Prelude.{◌≡◌, ℕ, ◌+◌, Bool, nat_eq, List, [], ◌∷◌, ◌++◌, length, filter, if◌then◌else◌}
+use Rattle.std.specs.Prelude.{Bool, ℕ, nat_eq, List, [], ◌∷◌, ◌++◌, map, if◌then◌else◌}
 use Rattle.std.specs.List.{list_any}
-use Rattle.open_records.specs.OpenRecords.{is_of, is_before}
-use Rattle.open_records.specs.Adding.{raised_where}
+use Rattle.open_records.specs.Leaving.{with_places_from}
+use Rattle.open_records.specs.PuttingBack.{Gone}
 use Rattle.open_records.specs.declared.open_record.KeyedRecord.{KeyedRecord}
 use Rattle.open_records.specs.declared.open_record.Rec.{Rec}
 
--- the place of the first record of an interface, and the place after its last one
-pub record IsRange (handle : ℕ) (guid : List ℕ) (entries : List KeyedRecord) (start end : ℕ) : Type 0 where
-  pub starts : start ≡ length (filter (is_before handle guid) entries)
-  pub ends : end ≡ start + length (filter (is_of handle guid) entries)
+-- those of an interface's records that pass a test, each with the interface and its place
+abbrev pub places_from : ℕ → ℕ → List ℕ → (KeyedRecord → Bool) → List Rec → List Gone
+places_from place handle guid test records =
+    map (λ (one : ℕ × Rec). (handle, guid, one.0, one.1)) (with_places_from place (λ (rec : Rec). test (record { handle = handle; guid = guid; rec = rec })) records)
+
+abbrev pub places_on : ℕ → List ℕ → (KeyedRecord → Bool) → List Rec → List Gone
+places_on handle guid test records = places_from 0 handle guid test records
 
 -- numbers, with one more after them if it is new
 abbrev pub with_number : ℕ → List ℕ → List ℕ
@@ -19,7 +22,3 @@ with_number number found = if list_any (λ other. nat_eq other number) found the
 abbrev pub joined : List ℕ → List ℕ → List ℕ
 joined found [] = found
 joined found (number ∷ numbers) = joined (with_number number found) numbers
-
--- a record, which counts one more open if it passes a test
-abbrev pub raised_here : (Rec → Bool) → KeyedRecord → KeyedRecord
-raised_here test one = record one { rec = raised_where test one.rec }

@@ -1,6 +1,7 @@
 //! Laws of the records' single changes, over the definitions alone. Each is the contract of a function
 //! without code.
 
+ghost use Rattle.open_records.specs.PuttingBack.{CountingIsUndoing, PuttingBackIsUndoing};
 ghost use Rattle.open_records.specs.Laws.{AddedHere, AddedNotElsewhere, AddingKeeps, AllCut, CutHere, CutNotElsewhere, CutOnHere, CutOnNotElsewhere, CuttingKeeps, CuttingOnKeeps, NoEqualRecords, NoneNamed, OneHolder, SweepingKeeps, SweptEverywhere, SweptPlaces};
 
 /// An interface of a sound table has at most one record with BY_DRIVER or EXCLUSIVE, and no two records of
@@ -36,4 +37,11 @@ pub fn records_go()
     ensures cut { AllCut }
     ensures swept { NoneNamed }
     ensures places { SweptPlaces }
+{}
+
+/// A removal is taken back by putting the records back that went, and an open by setting the count
+/// of before.
+pub fn changes_are_undone()
+    ensures putting { PuttingBackIsUndoing }
+    ensures counting { CountingIsUndoing }
 {}

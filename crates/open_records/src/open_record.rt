@@ -1,10 +1,13 @@
-ghost use Rattle.std.specs.Prelude.{◌≡◌, Some, None, true, if◌then◌else◌};
+ghost use Rattle.std.specs.Prelude.{◌≡◌, ◌&&◌, Some, None, true, if◌then◌else◌};
 ghost use Rattle.fw_types.specs.Attr.{is_legal};
-ghost use Rattle.open_records.specs.Adding.{first, raised_where};
+ghost use Rattle.open_records.specs.Adding.{first};
 ghost use Rattle.open_records.specs.Leaving.{fits, is_meant, is_named};
 ghost use Rattle.open_records.specs.Managing.{is_child, is_managing};
-ghost use Rattle.open_records.specs.OpenRecords.{is_before, is_after, is_equal, is_of, is_strong};
+ghost use Rattle.open_records.specs.OpenRecords.{is_equal, is_of, is_strong};
+ghost use Rattle.fw_types.specs.declared.attr.TheConstants.Attr.{ALL_BITS};
+ghost use Rattle.open_records.specs.Store.{interface_of, open_of};
 
+use crate::indexes::{Interface, Open};
 use fw_types::{Attr, Guid, Handle};
 
 /// That an agent has an interface open (UEFI 2.8, 7.3: EFI_OPEN_PROTOCOL_INFORMATION_ENTRY).
@@ -44,23 +47,6 @@ impl Rec {
             controller,
             attr,
             count: 1,
-        }
-    }
-
-    /// The record, which counts one more open if it is equal to another.
-    pub(crate) fn raised_as(&self, other: &Rec) -> Rec
-        ensures { let equal = is_equal other.now.agent other.now.controller other.now.attr in
-            result ≡ raised_where equal self.now }
-    {
-        if self.is_equal(other.agent, other.controller, other.attr) {
-            Rec {
-                agent: self.agent,
-                controller: self.controller,
-                attr: self.attr,
-                count: self.count.saturating_add(1),
-            }
-        } else {
-            *self
         }
     }
 
@@ -113,6 +99,13 @@ impl Rec {
 }
 
 impl KeyedRecord {
+    /// Its interface.
+    pub(crate) fn interface(&self) -> Interface
+        ensures { result ≡ interface_of self.now }
+    {
+        (self.handle, self.guid)
+    }
+
     /// Whether it is of an interface.
     pub(crate) fn is_of(&self, handle: Handle, guid: Guid) -> bool
         ensures { result ≡ is_of handle guid self.now }
@@ -120,18 +113,22 @@ impl KeyedRecord {
         self.handle == handle && self.guid == guid
     }
 
-    /// Whether its interface comes before another.
-    pub(crate) fn is_before(&self, handle: Handle, guid: Guid) -> bool
-        ensures { result ≡ is_before handle guid self.now }
+    /// Whether it is of an interface and has one of the six bits, as every record has.
+    pub(crate) fn goes_with(&self, handle: Handle, guid: Guid) -> bool
+        ensures { result ≡ (is_of handle guid self.now && is_meant None None ALL_BITS self.now.rec) }
     {
-        (self.handle, self.guid).cmp(&(handle, guid)).is_lt()
+        self.is_of(handle, guid) && self.rec.is_meant(None, None, Attr::ALL_BITS)
     }
 
-    /// Whether its interface comes after another.
-    pub(crate) fn is_after(&self, handle: Handle, guid: Guid) -> bool
-        ensures { result ≡ is_after handle guid self.now }
+    /// What tells it from every other record.
+    pub(crate) fn open(&self) -> Open
+        ensures { result ≡ open_of self.now }
     {
-        (self.handle, self.guid).cmp(&(handle, guid)).is_gt()
+        let rec = &self.rec;
+        (
+            self.interface(),
+            (rec.agent, rec.controller, rec.attr.bits()),
+        )
     }
 }
 

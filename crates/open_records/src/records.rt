@@ -5,21 +5,25 @@ ghost use Rattle.open_records.specs.Leaving.{cut, cut_on, is_meant, naming, with
 ghost use Rattle.open_records.specs.Managing.{children, managers};
 ghost use Rattle.open_records.specs.OpenRecords.{IsSound, records_of};
 ghost use Rattle.open_records.specs.Parties.{has_use_of, with_live_parties, without_agents_of};
+ghost use Rattle.open_records.specs.PuttingBack.{count_of, count_set, gone_by, picks, put_back, without_passing};
 ghost use Rattle.open_records.specs.Verdicts.{judge, may_enter};
 
-use crate::changing::{drop_meant, drop_named, drop_on, enter};
+use crate::adding::enter;
+use crate::choices::{AgentsOf, Dead, Equal, Meant};
 use crate::fault::RecFault;
-use crate::finding::{
-    any_meant, equal_among, meant_among, named_in, of_interface, records_in, strong_among,
-};
+use crate::finding::{gone_in, meant_in};
 use crate::managing::{children_on, managers_on};
-use crate::open_record::{KeyedRecord, Rec};
-use crate::parties::{any_use_of, drop_agents_of, drop_without_parties};
+use crate::open_record::Rec;
+use crate::removal::{drop_all, drop_picked};
+use crate::table::Table;
+use crate::undoing::{Choice, Gone, put_all};
+use crate::uses::any_use_of;
 use crate::verdict::{Verdict, verdict_of};
 use fw_types::{Attr, Guid, Handle, OutOfMemory};
 use handle_db::Db;
 use std::alloc::Global;
 use std::marker::Model;
+use std::mem;
 
 /// The open records of all interfaces (UEFI 2.8, 7.3: OpenProtocol): by handle, then by GUID in the order
 /// of its text form, then in order of their making.
@@ -30,7 +34,7 @@ use std::marker::Model;
 #[derive(Drop)]
 pub struct Records {
     alloc: Global,
-    entries: Vec<KeyedRecord>,
+    table: Table,
     limit: u32,
 }
 
@@ -40,12 +44,12 @@ impl Model for Records {
     ghost Value = { RecordTable };
 
     ghost view = { λ inside. record {
-      entries = inside.entries.items;
+      entries = inside.table;
       limit = inside.limit;
     } };
 
     ghost invariant = { λ inside. IsSound (record {
-      entries = inside.entries.items;
+      entries = inside.table;
       limit = inside.limit;
     }) };
 }
@@ -58,7 +62,7 @@ impl Records {
     {
         Records {
             alloc,
-            entries: Vec::new(alloc),
+            table: Table::new(alloc),
             limit,
         }
     }
@@ -87,8 +91,10 @@ impl Records {
         ensures ok { OnOk result (self.new ≡ added handle guid agent controller attr self.old) }
         ensures err { OnErr result (self.new ≡ self.old) }
     {
-        let rec = Rec::first(agent, controller, attr);
-        enter(&mut self.entries, self.limit, handle, guid, rec)?;
+        // the contract of `bits` says that an attribute is legal
+        let _bits = attr.bits();
+        let table = &mut self.table;
+        enter(table, self.limit, handle, guid, agent, controller, attr)?;
         Ok(())
     }
 
@@ -113,9 +119,22 @@ impl Records {
         ensures ok { OnOk result (self.new ≡ cut handle guid (is_meant agent controller bits) self.old) }
         ensures err { OnErr result (self.new ≡ self.old) }
     {
-        let mine = of_interface(self.entries.as_slice(), handle, guid);
-        let list = meant_among(self.alloc, mine, agent, controller, bits)?;
-        drop_meant(&mut self.entries, handle, guid, agent, controller, bits);
+        let meant = Meant {
+            agent,
+            controller,
+            bits,
+        };
+        let list = meant_in(self.alloc, &self.table, handle, guid, &meant)?;
+        drop_picked(
+            &mut self.table,
+            &Choice::OfInterface {
+                handle,
+                guid,
+                agent,
+                controller,
+                bits,
+            },
+        );
         Ok(list)
     }
 
@@ -131,9 +150,74 @@ impl Records {
         ensures ok { OnOk result (self.new ≡ swept name self.old) }
         ensures err { OnErr result (self.new ≡ self.old) }
     {
-        let list = named_in(self.alloc, self.entries.as_slice(), name)?;
-        drop_named(&mut self.entries, name);
+        let list = gone_in(self.alloc, &self.table, &Choice::Naming { name })?;
+        drop_picked(&mut self.table, &Choice::Naming { name });
         Ok(list)
+    }
+
+    /// Removes the records that are chosen, and answers them: by handle, then by GUID, then by place.
+    ///
+    /// # Errors
+    ///
+    /// `OutOfMemory` if there is no memory for the list. The records are then as before.
+    pub fn take(&mut self, choice: &Choice) -> Result<Vec<Gone>, OutOfMemory>
+        ensures gone { IfOk result (λ gone. gone.items ≡ gone_by (picks choice.now) self.old.entries) }
+        ensures ok { OnOk result (self.new ≡ without_passing (picks choice.now) self.old) }
+        ensures err { OnErr result (self.new ≡ self.old) }
+    {
+        let gone = gone_in(self.alloc, &self.table, choice)?;
+        drop_picked(&mut self.table, choice);
+        Ok(gone)
+    }
+
+    /// Puts records back that `take` answered, before any other change. The table is then sound.
+    ///
+    /// # Errors
+    ///
+    /// `OutOfMemory` if there is no memory. All records are then given up.
+    pub fn put_back(&mut self, gone: &[Gone]) -> Result<(), OutOfMemory>
+        requires { IsSound (put_back gone.now self.old) }
+        ensures { OnOk result (self.new ≡ put_back gone.now self.old) }
+    {
+        let mut table = mem::replace(&mut self.table, Table::new(self.alloc));
+        put_all(&mut table, gone)?;
+        self.table = table;
+        Ok(())
+    }
+
+    /// The count of an agent's record for a controller with an attribute, on an interface; 0 if there is
+    /// none. Takes no memory.
+    pub fn count(&self, handle: Handle, guid: Guid, agent: u64, controller: u64, attr: Attr) -> u32
+        ensures { result ≡ count_of handle guid agent controller attr self.now }
+    {
+        self.table.count_of(handle, guid, agent, controller, attr)
+    }
+
+    /// Sets the count of an agent's record for a controller with an attribute, on an interface; if the
+    /// count is 0, the record goes. The table is then sound. Takes no memory.
+    pub fn set_count(
+        &mut self,
+        handle: Handle,
+        guid: Guid,
+        agent: u64,
+        controller: u64,
+        attr: Attr,
+        count: u32,
+    )
+        requires { IsSound (count_set handle guid agent controller attr count self.old) }
+        ensures { self.new ≡ count_set handle guid agent controller attr count self.old }
+    {
+        let table = &mut self.table;
+        if count == 0 {
+            let equal = Equal {
+                agent,
+                controller,
+                attr,
+            };
+            table.drop_where(handle, guid, &equal);
+            return;
+        }
+        table.recount(handle, guid, agent, controller, attr, count);
     }
 
     /// How many records there are. Takes no memory.
@@ -142,7 +226,7 @@ impl Records {
     {
         // reading the limit shows that it fits in 32 bits
         let _most = self.limit;
-        self.entries.len() as u32
+        self.table.len() as u32
     }
 
     /// Removes what `cut` removes and lists nothing. Takes no memory.
@@ -156,7 +240,16 @@ impl Records {
     )
         ensures { self.new ≡ cut handle guid (is_meant agent controller bits) self.old }
     {
-        drop_meant(&mut self.entries, handle, guid, agent, controller, bits);
+        drop_picked(
+            &mut self.table,
+            &Choice::OfInterface {
+                handle,
+                guid,
+                agent,
+                controller,
+                bits,
+            },
+        );
     }
 
     /// Removes those of a handle's records, on whatever interface, that are of `agent`, if it is given, and
@@ -170,14 +263,22 @@ impl Records {
     )
         ensures { self.new ≡ cut_on handle (is_meant agent controller bits) self.old }
     {
-        drop_on(&mut self.entries, handle, agent, controller, bits);
+        drop_picked(
+            &mut self.table,
+            &Choice::OnHandle {
+                handle,
+                agent,
+                controller,
+                bits,
+            },
+        );
     }
 
     /// Removes what `sweep` removes and lists nothing. Takes no memory.
     pub fn drop_naming(&mut self, name: Handle)
         ensures { self.new ≡ swept name self.old }
     {
-        drop_named(&mut self.entries, name);
+        drop_picked(&mut self.table, &Choice::Naming { name });
     }
 
     /// Removes the records whose agents belong to an image (UEFI 2.8, 7.4: UnloadImage): the image's own
@@ -185,7 +286,7 @@ impl Records {
     pub fn drop_agents(&mut self, db: &Db, image: Handle, guid: Guid)
         ensures { self.new ≡ without_agents_of image guid db.now self.old }
     {
-        drop_agents_of(&mut self.entries, image, guid, db);
+        drop_all(&mut self.table, &AgentsOf { image, guid, db });
     }
 
     /// Removes the records whose interface is not installed, whose agent is not live, or whose controller
@@ -193,7 +294,7 @@ impl Records {
     pub fn drop_dead(&mut self, db: &Db)
         ensures { self.new ≡ with_live_parties db.now self.old }
     {
-        drop_without_parties(&mut self.entries, db);
+        drop_all(&mut self.table, &Dead(db));
     }
 
     /// Whether an image is in use (UEFI 2.8, 7.4: UnloadImage): an agent that belongs to it, as
@@ -202,7 +303,7 @@ impl Records {
     pub fn has_use_of(&self, db: &Db, image: Handle, guid: Guid) -> bool
         ensures { result ≡ has_use_of image guid db.now self.now }
     {
-        any_use_of(self.entries.as_slice(), image, guid, db)
+        any_use_of(&self.table, image, guid, db)
     }
 
     /// The records of an interface in order of their making (UEFI 2.8, 7.3: OpenProtocolInformation).
@@ -213,10 +314,7 @@ impl Records {
     pub fn list(&self, handle: Handle, guid: Guid) -> Result<Vec<Rec>, OutOfMemory>
         ensures { IfOk result (λ records. records.items ≡ records_of self.now.entries handle guid) }
     {
-        records_in(
-            self.alloc,
-            of_interface(self.entries.as_slice(), handle, guid),
-        )
+        self.table.list(handle, guid)
     }
 
     /// Whether an interface has a record that `cut` would remove: one of `agent`, if it is given, and for
@@ -232,12 +330,12 @@ impl Records {
         ensures { let records = records_of self.now.entries handle guid in
             result ≡ list_any (is_meant agent controller bits) records }
     {
-        any_meant(
-            of_interface(self.entries.as_slice(), handle, guid),
+        let meant = Meant {
             agent,
             controller,
             bits,
-        )
+        };
+        self.table.has_meant(handle, guid, &meant)
     }
 
     /// What the records of an interface say to an open by an agent for a controller, as `judge` says it.
@@ -252,9 +350,9 @@ impl Records {
     ) -> Verdict
         ensures { result ≡ judge (records_of self.now.entries handle guid) agent controller attr }
     {
-        let mine = of_interface(self.entries.as_slice(), handle, guid);
-        let rec = Rec::first(agent, controller, attr);
-        verdict_of(strong_among(mine), equal_among(mine, &rec), agent, attr)
+        let holder = self.table.holder(handle, guid);
+        let equal = self.table.has_equal(handle, guid, agent, controller, attr);
+        verdict_of(holder, equal, agent, attr)
     }
 
     /// Whether an open by an agent for a controller would be a record more than there may be: the error
@@ -269,9 +367,8 @@ impl Records {
     ) -> bool
         ensures { result ≡ is_full handle guid agent controller attr self.now }
     {
-        let mine = of_interface(self.entries.as_slice(), handle, guid);
-        let rec = Rec::first(agent, controller, attr);
-        !equal_among(mine, &rec) && self.entries.len() >= self.limit as usize
+        let equal = self.table.has_equal(handle, guid, agent, controller, attr);
+        !equal && self.table.len() >= self.limit as usize
     }
 
     /// The children of a handle: the controllers, except 0, of the BY_CHILD_CONTROLLER records on it, of
@@ -290,13 +387,7 @@ impl Records {
         ensures { IfOk result (λ found. found.items ≡ children self.now.entries db.now handle agent) }
     {
         let protocols = db.protocols_of(handle)?;
-        children_on(
-            self.alloc,
-            self.entries.as_slice(),
-            handle,
-            protocols.as_slice(),
-            agent,
-        )
+        children_on(self.alloc, &self.table, handle, protocols.as_slice(), agent)
     }
 
     /// The agents that manage a handle: those of the records with BY_DRIVER on it. Each is listed once, in
@@ -309,27 +400,7 @@ impl Records {
         ensures { IfOk result (λ found. found.items ≡ managers self.now.entries db.now handle) }
     {
         let protocols = db.protocols_of(handle)?;
-        managers_on(
-            self.alloc,
-            self.entries.as_slice(),
-            handle,
-            protocols.as_slice(),
-        )
-    }
-
-    /// Equal records.
-    ///
-    /// # Errors
-    ///
-    /// `OutOfMemory` if there is no memory for them.
-    pub fn copy(&self) -> Result<Records, OutOfMemory>
-        ensures { IfOk result (λ copy. copy ≡ self.now) }
-    {
-        Ok(Records {
-            alloc: self.alloc,
-            entries: Vec::from_slice(self.alloc, self.entries.as_slice())?,
-            limit: self.limit,
-        })
+        managers_on(self.alloc, &self.table, handle, protocols.as_slice())
     }
 
     /// Says what holds of all records and does nothing: their interfaces rise; an interface has at most one
@@ -338,6 +409,6 @@ impl Records {
     pub fn soundness(&self)
         ensures { IsSound self.now }
     {
-        let _entries = &self.entries;
+        let _table = &self.table;
     }
 }

@@ -1,6 +1,6 @@
 use crate::{RecFault, Records, Verdict, judge};
 use fw_types::{Attr, Guid, Handle, MOST_HANDLES, MOST_RECORDS};
-use handle_db::Db;
+use handle_db::{Db, DbRefusal};
 use std::alloc::Global;
 use std::process::Abort;
 use std::test::Fail;
@@ -33,6 +33,12 @@ fn open(
     let verdict = records.judged(on, protocol, by.0, by.1, bits);
     assert!(rt; verdict.may_enter());
     records.add(on, protocol, by.0, by.1, bits)
+}
+
+/// The verdict on an open of a protocol of handle 3.
+fn judged_of(rt: &impl Abort, records: &Records, protocol: u8, asked: (u64, u64, u32)) -> Verdict {
+    let bits = attr(rt, asked.2);
+    records.judged(handle(rt, 3), guid(protocol), asked.0, asked.1, bits)
 }
 
 /// The verdict on an open if there is one record of agent 5, or none, for the same agent and for agent 6.
@@ -75,12 +81,9 @@ fn verdicts(rt: HostRuntime) -> Result<(), Fail> {
     for (there, asked, verdict) in cases {
         let mut records = Records::new(rt.alloc(), MOST_RECORDS);
         open(&rt, &mut records, (3, 1), there)?;
-        let bits = attr(&rt, asked.2);
-        let judged = records.judged(handle(&rt, 3), guid(1), asked.0, asked.1, bits);
-        assert_eq!(rt; judged, verdict);
+        assert_eq!(rt; judged_of(&rt, &records, 1, asked), verdict);
         // another interface has no record
-        let elsewhere = records.judged(handle(&rt, 3), guid(2), asked.0, asked.1, bits);
-        assert_eq!(rt; elsewhere, Verdict::Add);
+        assert_eq!(rt; judged_of(&rt, &records, 2, asked), Verdict::Add);
     }
     assert_eq!(rt; judge(&[], 5, 9, attr(&rt, 0x30)), Verdict::Add);
     Ok(())
@@ -90,23 +93,39 @@ fn verdicts(rt: HostRuntime) -> Result<(), Fail> {
 #[test]
 fn limit(rt: HostRuntime) -> Result<(), Fail> {
     let mut records = Records::new(rt.alloc(), MOST_RECORDS);
+    limit_in(&rt, &mut records)
+}
+
+fn limit_in(rt: &impl Abort, records: &mut Records) -> Result<(), Fail> {
     for number in 1..1025 {
         for agent in 1..65 {
-            open(&rt, &mut records, (number, 1), (agent, 0, 0x01))?;
+            open(rt, records, (number, 1), (agent, 0, 0x01))?;
         }
     }
-    let one_more = open(&rt, &mut records, (1, 1), (65, 0, 0x01));
+    let one_more = open(rt, records, (1, 1), (65, 0, 0x01));
     assert_eq!(rt; one_more.err(), Some(RecFault::Full));
     // an equal open is counted all the same
-    open(&rt, &mut records, (1, 1), (64, 0, 0x01))?;
-    let list = records.list(handle(&rt, 1), guid(1))?;
+    open(rt, records, (1, 1), (64, 0, 0x01))?;
+    let list = records.list(handle(rt, 1), guid(1))?;
     assert_eq!(rt; list.len(), 64);
     assert_eq!(rt; list.as_slice().last().map(|rec| rec.count), Some(2));
     // a record that is removed makes room
-    let list = records.cut(handle(&rt, 7), guid(1), Some(3), None, Attr::ALL_BITS)?;
+    let list = records.cut(handle(rt, 7), guid(1), Some(3), None, Attr::ALL_BITS)?;
     assert_eq!(rt; list.len(), 1);
-    open(&rt, &mut records, (1, 1), (65, 0, 0x01))?;
-    assert_eq!(rt; records.list(handle(&rt, 1), guid(1))?.len(), 65);
+    open(rt, records, (1, 1), (65, 0, 0x01))?;
+    assert_eq!(rt; records.list(handle(rt, 1), guid(1))?.len(), 65);
+    Ok(())
+}
+
+/// Enters opens one after another.
+fn open_all(
+    rt: &impl Abort,
+    records: &mut Records,
+    opens: &[((u64, u8), (u64, u64, u32))],
+) -> Result<(), RecFault> {
+    for (interface, by) in opens {
+        open(rt, records, *interface, *by)?;
+    }
     Ok(())
 }
 
@@ -124,17 +143,14 @@ fn four(rt: &impl Abort, alloc: Global) -> Result<Records, RecFault> {
         ((4, 1), (6, 7, 0x08)),
         ((4, 2), (6, 4, 0x10)),
     ];
-    for (interface, by) in opens {
-        open(rt, &mut records, interface, by)?;
-    }
+    open_all(rt, &mut records, &opens)?;
     Ok(records)
 }
 
 /// What a cut removes, with the places, and what it leaves.
 #[test]
 fn cutting(rt: HostRuntime) -> Result<(), Fail> {
-    let records = four(&rt, rt.alloc())?;
-    let cases: [(Option<u64>, Option<u64>, u32, &[u32]); 9] = [
+    let cases: [Cut; 9] = [
         (None, None, Attr::ALL_BITS, &[0, 1, 2, 3]),
         (Some(6), None, Attr::ALL_BITS, &[0, 2, 3]),
         (Some(6), Some(4), Attr::ALL_BITS, &[2, 3]),
@@ -145,45 +161,64 @@ fn cutting(rt: HostRuntime) -> Result<(), Fail> {
         (None, None, 0x07, &[0]),
         (Some(7), None, Attr::ALL_BITS, &[]),
     ];
-    for (agent, controller, bits, places) in cases {
-        let mut copy = records.copy()?;
-        let before = copy.list(handle(&rt, 4), guid(2))?;
-        let list = copy.cut(handle(&rt, 4), guid(2), agent, controller, bits)?;
-        assert_eq!(rt; list.len(), places.len());
-        for ((place, rec), wanted) in list.as_slice().iter().zip(places) {
-            assert_eq!(rt; place, wanted);
-            assert_eq!(rt; before.as_slice().get(*place as usize), Some(rec));
-        }
-        let left = copy.list(handle(&rt, 4), guid(2))?;
-        assert_eq!(rt; left.len() + list.len(), 4);
-        assert_eq!(rt; copy.list(handle(&rt, 4), guid(1))?.len(), 2);
+    for case in cases {
+        let mut records = four(&rt, rt.alloc())?;
+        cut_of_four(&rt, &mut records, case)?;
     }
+    Ok(())
+}
+
+/// Agent, controller and bits of a cut, and the places of the records that it removes.
+type Cut = (Option<u64>, Option<u64>, u32, &'static [u32]);
+
+/// What one cut removes of the four records of an interface, and what it leaves.
+fn cut_of_four(rt: &impl Abort, records: &mut Records, case: Cut) -> Result<(), Fail> {
+    let (agent, controller, bits, places) = case;
+    let on = handle(rt, 4);
+    let before = records.list(on, guid(2))?;
+    let list = records.cut(on, guid(2), agent, controller, bits)?;
+    assert_eq!(rt; list.len(), places.len());
+    for ((place, rec), wanted) in list.as_slice().iter().zip(places) {
+        assert_eq!(rt; place, wanted);
+        assert_eq!(rt; before.as_slice().get(*place as usize), Some(rec));
+    }
+    let left = records.list(on, guid(2))?;
+    assert_eq!(rt; left.len() + list.len(), 4);
+    assert_eq!(rt; records.list(on, guid(1))?.len(), 2);
     Ok(())
 }
 
 /// What is removed without being listed, and whether it was there.
 #[test]
 fn dropping(rt: HostRuntime) -> Result<(), Fail> {
-    let records = four(&rt, rt.alloc())?;
+    let mut records = four(&rt, rt.alloc())?;
+    drop_of_an_interface(&rt, &mut records)?;
+    let mut records = four(&rt, rt.alloc())?;
+    drop_of_a_handle(&rt, &mut records)
+}
+
+/// Records of one interface.
+fn drop_of_an_interface(rt: &impl Abort, records: &mut Records) -> Result<(), Fail> {
+    let on = handle(rt, 4);
     assert_eq!(rt; records.len(), 8);
-    let on = handle(&rt, 4);
-    // of one interface
-    let mut copy = records.copy()?;
-    assert!(rt; copy.has_meant(on, guid(2), Some(6), Some(4), 0x18));
-    copy.drop_from(on, guid(2), Some(6), Some(4), 0x18);
-    assert!(rt; !copy.has_meant(on, guid(2), Some(6), Some(4), 0x18));
-    assert!(rt; copy.has_meant(on, guid(2), Some(6), None, Attr::ALL_BITS));
-    assert_eq!(rt; (copy.len(), copy.list(on, guid(2))?.len()), (6, 2));
-    // of all interfaces of a handle
-    let mut copy = records.copy()?;
-    copy.drop_on(on, Some(6), Some(7), 0x08);
-    assert_eq!(rt; (copy.len(), copy.list(on, guid(1))?.len()), (7, 1));
-    copy.drop_on(on, Some(6), None, Attr::ALL_BITS);
-    assert_eq!(rt; (copy.len(), copy.list(on, guid(2))?.len()), (4, 1));
-    // of those that name a handle
-    let mut copy = records.copy()?;
-    copy.drop_naming(handle(&rt, 6));
-    assert_eq!(rt; (copy.len(), copy.list(on, guid(2))?.len()), (3, 1));
+    assert!(rt; records.has_meant(on, guid(2), Some(6), Some(4), 0x18));
+    records.drop_from(on, guid(2), Some(6), Some(4), 0x18);
+    assert!(rt; !records.has_meant(on, guid(2), Some(6), Some(4), 0x18));
+    assert!(rt; records.has_meant(on, guid(2), Some(6), None, Attr::ALL_BITS));
+    assert_eq!(rt; (records.len(), records.list(on, guid(2))?.len()), (6, 2));
+    // those that name a handle: one of this interface, and two of others
+    records.drop_naming(handle(rt, 6));
+    assert_eq!(rt; (records.len(), records.list(on, guid(2))?.len()), (3, 1));
+    Ok(())
+}
+
+/// Records of all interfaces of a handle.
+fn drop_of_a_handle(rt: &impl Abort, records: &mut Records) -> Result<(), Fail> {
+    let on = handle(rt, 4);
+    records.drop_on(on, Some(6), Some(7), 0x08);
+    assert_eq!(rt; (records.len(), records.list(on, guid(1))?.len()), (7, 1));
+    records.drop_on(on, Some(6), None, Attr::ALL_BITS);
+    assert_eq!(rt; (records.len(), records.list(on, guid(2))?.len()), (4, 1));
     Ok(())
 }
 
@@ -191,6 +226,10 @@ fn dropping(rt: HostRuntime) -> Result<(), Fail> {
 #[test]
 fn sweeping(rt: HostRuntime) -> Result<(), Fail> {
     let mut records = four(&rt, rt.alloc())?;
+    sweeping_in(&rt, &mut records)
+}
+
+fn sweeping_in(rt: &impl Abort, records: &mut Records) -> Result<(), Fail> {
     let wanted: [(u64, u8, u32, u64, u64, u32, u32); 5] = [
         (4, 1, 1, 6, 7, 0x08, 1),
         (4, 2, 0, 6, 0, 0x02, 2),
@@ -198,7 +237,7 @@ fn sweeping(rt: HostRuntime) -> Result<(), Fail> {
         (4, 2, 3, 6, 4, 0x10, 1),
         (9, 1, 0, 8, 6, 0x01, 1),
     ];
-    let list = records.sweep(handle(&rt, 6))?;
+    let list = records.sweep(handle(rt, 6))?;
     assert_eq!(rt; list.len(), 5);
     for ((on, protocol, place, rec), expected) in list.as_slice().iter().zip(wanted) {
         assert_eq!(rt; (on.get(), *place), (expected.0, expected.2));
@@ -206,9 +245,9 @@ fn sweeping(rt: HostRuntime) -> Result<(), Fail> {
         assert_eq!(rt; (rec.agent, rec.controller), (expected.3, expected.4));
         assert_eq!(rt; (rec.attr.bits(), rec.count), (expected.5, expected.6));
     }
-    assert_eq!(rt; records.sweep(handle(&rt, 6))?.len(), 0);
-    assert_eq!(rt; records.list(handle(&rt, 4), guid(2))?.len(), 1);
-    assert_eq!(rt; records.list(handle(&rt, 9), guid(1))?.len(), 0);
+    assert_eq!(rt; records.sweep(handle(rt, 6))?.len(), 0);
+    assert_eq!(rt; records.list(handle(rt, 4), guid(2))?.len(), 1);
+    assert_eq!(rt; records.list(handle(rt, 9), guid(1))?.len(), 0);
     Ok(())
 }
 
@@ -216,14 +255,24 @@ fn sweeping(rt: HostRuntime) -> Result<(), Fail> {
 #[test]
 fn children_and_managers(rt: HostRuntime) -> Result<(), Fail> {
     let mut db = Db::new(rt.alloc(), MOST_HANDLES);
+    install_four(&mut db, handle(&rt, 4))?;
+    let mut records = Records::new(rt.alloc(), MOST_RECORDS);
+    children_and_managers_in(&rt, &db, &mut records)
+}
+
+/// Four handles, of which the last has four protocols.
+fn install_four(db: &mut Db, last: Handle) -> Result<(), DbRefusal> {
     for number in 1..5 {
         db.install(None, guid(7), number, Handle::firmware())?;
     }
-    let parent = handle(&rt, 4);
     for protocol in [2, 1, 3] {
-        db.install(Some(parent), guid(protocol), 0, Handle::firmware())?;
+        db.install(Some(last), guid(protocol), 0, Handle::firmware())?;
     }
-    let mut records = Records::new(rt.alloc(), MOST_RECORDS);
+    Ok(())
+}
+
+fn children_and_managers_in(rt: &impl Abort, db: &Db, records: &mut Records) -> Result<(), Fail> {
+    let parent = handle(rt, 4);
     let opens: [((u64, u8), (u64, u64, u32)); 11] = [
         ((4, 1), (5, 8, 0x08)),
         ((4, 1), (5, 9, 0x08)),
@@ -237,9 +286,7 @@ fn children_and_managers(rt: HostRuntime) -> Result<(), Fail> {
         ((4, 7), (7, 0, 0x20)),
         ((3, 7), (8, 2, 0x08)),
     ];
-    for (interface, by) in opens {
-        open(&rt, &mut records, interface, by)?;
-    }
+    open_all(rt, records, &opens)?;
     let cases: [(Option<u64>, &[u64]); 4] = [
         (None, &[9, 7, 8]),
         (Some(5), &[7, 8, 9]),
@@ -247,16 +294,41 @@ fn children_and_managers(rt: HostRuntime) -> Result<(), Fail> {
         (Some(7), &[]),
     ];
     for (agent, wanted) in cases {
-        let children = records.children_of(&db, parent, agent)?;
+        let children = records.children_of(db, parent, agent)?;
         assert_eq!(rt; children.len(), wanted.len());
         for (child, number) in children.as_slice().iter().zip(wanted) {
             assert_eq!(rt; child.get(), *number);
         }
     }
-    let managers = records.managers_of(&db, parent)?;
+    let managers = records.managers_of(db, parent)?;
     assert_eq!(rt; managers.as_slice(), [6u64, 5].as_slice());
     // a handle that is not live has neither
-    assert_eq!(rt; records.children_of(&db, handle(&rt, 9), None)?.len(), 0);
-    assert_eq!(rt; records.managers_of(&db, handle(&rt, 9))?.len(), 0);
+    assert_eq!(rt; records.children_of(db, handle(rt, 9), None)?.len(), 0);
+    assert_eq!(rt; records.managers_of(db, handle(rt, 9))?.len(), 0);
+    Ok(())
+}
+
+/// A `copy` and a `clone` of this test's own.
+trait Absent {
+    fn copy(&self) -> u64;
+
+    fn clone(&self) -> u64;
+}
+
+impl Absent for Records {
+    fn copy(&self) -> u64 {
+        1
+    }
+
+    fn clone(&self) -> u64 {
+        2
+    }
+}
+
+/// Records have no call that copies them, and are not Clone: else these would not be the calls of `Absent`.
+#[test]
+fn no_copies(rt: HostRuntime) -> Result<(), Fail> {
+    let records = Records::new(rt.alloc(), 1);
+    assert_eq!(rt; (records.copy(), records.clone()), (1, 2));
     Ok(())
 }

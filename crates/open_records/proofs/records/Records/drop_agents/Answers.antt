@@ -6,5 +6,5 @@ use Rattle.open_records.proofs.records.Records.drop_agents.Goals as goal
 
 pub invariant_of-self : goal.invariant_of-self
 invariant_of-self c =
-    rw c.drop_agents_of.ensures
-    (filter_sound (λ (one : KeyedRecord). not (belongs_to c.args.image c.args.guid c.args.db.now one.rec.agent)) (record { entries = c.self.inside.entries.items; limit = c.self.inside.limit }) c.self.invariant)
+    rw c.drop_all.ensures
+    (filter_sound (λ (one : KeyedRecord). not (belongs_to c.args.image c.args.guid c.args.db.now one.rec.agent)) (record { entries = c.self.inside.table; limit = c.self.inside.limit }) c.self.invariant)

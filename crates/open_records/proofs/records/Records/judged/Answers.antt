@@ -4,5 +4,5 @@ use Rattle.open_records.proofs.records.Records.judged.Goals as goal
 
 pub returns : goal.returns
 returns c =
-    let entries : c.self.inside.entries.items ≡ c.args.self.now.entries = ap (λ (table : RecordTable). table.entries) c.self.view_is in
-    rw (c.verdict_of.ensures, c.strong_among.ensures, c.equal_among.ensures, c.first-rec.ensures.value, c.of_interface-mine.ensures, c.as_slice.ensures.value, entries) refl
+    let entries : c.self.inside.table ≡ c.args.self.now.entries = ap (λ (table : RecordTable). table.entries) c.self.view_is in
+    rw (c.verdict_of.ensures, c.holder-holder.ensures, c.has_equal-equal.ensures, entries) refl
