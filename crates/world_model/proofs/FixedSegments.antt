@@ -39,7 +39,7 @@ putting segments at bytes can = fixed-put_bytes segments at bytes can
 -- ---- mapping
 
 -- segments that lie from an address on begin there or behind it
-all_from : (low from : ℕ) (segments : List Segment) → lie_from from segments ≡ true → low ≤ from → list_all (λ (s : Segment). nat_le low s.base) segments ≡ true
+pub all_from : (low from : ℕ) (segments : List Segment) → lie_from from segments ≡ true → low ≤ from → list_all (λ (s : Segment). nat_le low s.base) segments ≡ true
 all_from low from [] lies le = refl
 all_from low from (s ∷ rest) lies le =
     let order = and_parts (nat_le from s.base) (lie_from (end_of s) rest) lies in
@@ -47,7 +47,7 @@ all_from low from (s ∷ rest) lies le =
     let behind : low ≤ s.base = grind (arith, nat_tests, order.0) in
     and_from (nat_le low s.base) (list_all (λ (s : Segment). nat_le low s.base) rest) here (all_from low (end_of s) rest order.1 (omega arith))
 
-mapped-first : (new : Segment) (segments : List Segment) → list_all (λ (s : Segment). nat_le new.base s.base) segments ≡ true → mapped new segments ≡ new ∷ segments
+pub mapped-first : (new : Segment) (segments : List Segment) → list_all (λ (s : Segment). nat_le new.base s.base) segments ≡ true → mapped new segments ≡ new ∷ segments
 mapped-first new [] all = refl
 mapped-first new (s ∷ rest) all =
     let parts = and_parts (nat_le new.base s.base) (list_all (λ (s : Segment). nat_le new.base s.base) rest) all in

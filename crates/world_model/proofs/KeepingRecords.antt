@@ -14,7 +14,7 @@ use Rattle.world_model.specs.Keeping.{AllLeavingKeeps, ChildLeavingKeeps, Enteri
 use Rattle.world_model.proofs.RecordParties.{parties-added, records-filter}
 
 -- other records
-kept_with : (soft : Soft) (table : RecordTable) → IsKept soft → AreRecordsKept soft.database table → IsKept (with_records table soft)
+pub kept_with : (soft : Soft) (table : RecordTable) → IsKept soft → AreRecordsKept soft.database table → IsKept (with_records table soft)
 kept_with soft table kept opens = record {
   memory = kept.memory;
   images = kept.images;

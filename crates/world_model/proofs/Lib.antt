@@ -36,3 +36,8 @@ pub mod ThunkLaws
 pub mod Children
 pub mod Levels
 pub mod NestedLaws
+pub mod UndoSegments
+pub mod UndoStacks
+pub mod UndoLists
+pub mod UndoNoted
+pub mod UndoRecords

@@ -27,3 +27,5 @@ pub mod ThunkLaws
 pub mod Children
 pub mod Levels
 pub mod NestedLaws
+pub mod Undo
+pub mod UndoLaws

@@ -18,6 +18,7 @@ ghost use Rattle.world_model.specs.Levels.{CallHasMarks, DeeperHasMarks, DeeperI
 ghost use Rattle.world_model.specs.Marks.{CommitSpendsMark, RollbackPutsBack};
 ghost use Rattle.world_model.specs.NestedLaws.{AllLeavingInView, ChildLeavingInView, EnteringInView, InstallingInView, LeavingInView, NewHandleInView, UninstallingInView, WeakDroppingInView};
 ghost use Rattle.world_model.specs.StackLaws.{AddingKeepsStacks, AllottingKeepsStacks, DroppingKeepsStacks, FreeingKeepsStacks, PoppingUndoesPush, PoppingTakesStack, PushedStackIsThere, PushingAddsStack, PuttingKeepsStacks, StackOfLevel, SweepingKeepsStacks, WritingKeepsStacks};
+ghost use Rattle.world_model.specs.UndoLaws.{AddImageIsNoted, AllotIsNoted, BusListIsNoted, ChildIsNoted, DropImageIsNoted, EnterIsNoted, FreeIsNoted, InstallIsNoted, LeaveIsNoted, LeftStackIsThere, NoneIsLeftOut, NotedBesideStacks, PoppedIsLeftOut, PushedIsLeftOut, PutIsNoted, TakenBesideStacks, ThunkIsNoted, TplIsNoted, UndoingLeavesStacks, UninstallIsNoted, WriteIsNoted};
 ghost use Rattle.world_model.specs.Keeping.{AddingKeeps, AllLeavingKeeps, AllottingKeeps, BlockFits, ChildLeavingKeeps, DroppingKeeps, EnteringKeeps, FreeingKeeps, ImageFits, InstallingKeeps, LeavingKeeps, ListFits, MakingKeeps, OpeningIsKept, PoppingKeeps, PushingKeeps, PuttingKeeps, StackFits, ImageBlockFits, SweepingKeeps, TplKeeps, UninstallingKeeps, WeakDroppingKeeps, WritingKeeps, BusListKeeps, NotingKeeps};
 
 /// The tables, lists of children and blocks of the firmware keep their bytes while they are mapped:
@@ -203,6 +204,36 @@ pub fn thunks_enter_images()
     ensures others { MakingKeepsOthers }
     ensures enters { ThunkEntersImage }
     ensures dropping { DroppingTakesThunks }
+{}
+
+/// Each change that is noted, made and taken back, leaves an equal soft part.
+pub fn changes_are_taken_back()
+    ensures tpl { TplIsNoted }
+    ensures write { WriteIsNoted }
+    ensures put { PutIsNoted }
+    ensures allot { AllotIsNoted }
+    ensures free { FreeIsNoted }
+    ensures install { InstallIsNoted }
+    ensures uninstall { UninstallIsNoted }
+    ensures enter { EnterIsNoted }
+    ensures leave { LeaveIsNoted }
+    ensures drop_image { DropImageIsNoted }
+    ensures add_image { AddImageIsNoted }
+    ensures thunk { ThunkIsNoted }
+    ensures child { ChildIsNoted }
+    ensures bus_list { BusListIsNoted }
+{}
+
+/// What a mark keeps stays as changes are made and noted, and as the stacks of later levels come and
+/// go. To take changes back leaves the stacks.
+pub fn marks_keep()
+    ensures noted { NotedBesideStacks }
+    ensures taken { TakenBesideStacks }
+    ensures pushed { PushedIsLeftOut }
+    ensures popped { PoppedIsLeftOut }
+    ensures none { NoneIsLeftOut }
+    ensures left { LeftStackIsThere }
+    ensures undone { UndoingLeavesStacks }
 {}
 
 /// The limits that no test reaches have these values.

@@ -6,14 +6,18 @@
 #![tactic(auto)]
 
 mod bus_child;
+mod change;
 mod fault;
 mod image;
 pub mod laws;
+mod stack_levels;
 mod thunk;
 mod tpl;
 
 pub use bus_child::BusChild;
+pub use change::{Change, DroppedImage};
 pub use fault::WorldFault;
 pub use image::LoadedImage;
+pub use stack_levels::StackLevels;
 pub use thunk::Thunk;
 pub use tpl::TPL_APPLICATION;

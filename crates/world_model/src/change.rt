@@ -1,0 +1,128 @@
+use crate::bus_child::BusChild;
+use crate::image::LoadedImage;
+use crate::thunk::Thunk;
+use fw_types::{Attr, Guid, Handle, Rows};
+use guest_memory::Segment;
+use handle_db::Removed;
+use open_records::Gone;
+
+/// An image that was dropped, with what belonged to it.
+#[derive(Drop)]
+pub struct DroppedImage {
+    /// The image.
+    pub image: LoadedImage,
+    /// Its place among the images that are loaded.
+    pub place: usize,
+    /// Its bytes.
+    pub segment: Segment,
+    /// Its loaded image block.
+    pub block: Segment,
+    /// Its loaded image interface.
+    pub removed: Removed,
+    /// The open records that went with it.
+    pub gone: Rows<Gone>,
+    /// The thunks that entered it.
+    pub thunks: Rows<Thunk>,
+}
+
+/// A change of the soft part that was made, with what it takes to take it back.
+#[derive(Drop)]
+pub enum Change {
+    /// The task priority level was set.
+    SetTpl {
+        /// The level of before.
+        before: u8,
+    },
+    /// A number was written.
+    Write {
+        /// The address of its first byte.
+        at: u64,
+        /// How many bytes it has.
+        n: u8,
+        /// The bytes of before, and zeros behind them.
+        before: [u8; 8],
+    },
+    /// Bytes were put in place of others.
+    Put {
+        /// The address of the first.
+        at: u64,
+        /// The bytes of before.
+        before: Rows<u8>,
+    },
+    /// A block was made.
+    Allot {
+        /// Its address.
+        at: u64,
+    },
+    /// A block was freed.
+    Free {
+        /// What was mapped there.
+        segment: Segment,
+    },
+    /// An interface was installed.
+    Install {
+        /// Its handle.
+        handle: Handle,
+        /// Its protocol.
+        guid: Guid,
+        /// Whether the handle was made for it.
+        made: bool,
+    },
+    /// An interface was uninstalled.
+    Uninstall {
+        /// Its handle.
+        handle: Handle,
+        /// Its protocol.
+        guid: Guid,
+        /// What it was.
+        removed: Removed,
+        /// The open records that went with it.
+        gone: Rows<Gone>,
+        /// The child of the bus that went with it, and its place among the others.
+        child: Option<(usize, BusChild)>,
+    },
+    /// An open was entered.
+    Enter {
+        /// The handle of the interface.
+        handle: Handle,
+        /// Its protocol.
+        guid: Guid,
+        /// The agent.
+        agent: u64,
+        /// The controller, or 0.
+        controller: u64,
+        /// How it is open.
+        attr: Attr,
+        /// How many opens its record counted before; 0 if there was none.
+        before: u32,
+    },
+    /// Open records were removed.
+    Leave {
+        /// Those that went.
+        gone: Rows<Gone>,
+    },
+    /// An image was dropped.
+    DropImage {
+        /// What went.
+        dropped: DroppedImage,
+    },
+    /// An image was added.
+    AddImage {
+        /// The image.
+        image: LoadedImage,
+    },
+    /// A thunk was made.
+    MakeThunk,
+    /// A function became that of a handle.
+    NoteChild {
+        /// How many children of the bus there were before.
+        count: usize,
+    },
+    /// The bus list of a function was set.
+    SetBusList {
+        /// The number of the function.
+        function: u32,
+        /// The list of before.
+        before: Option<Rows<Handle>>,
+    },
+}
