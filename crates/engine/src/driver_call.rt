@@ -27,7 +27,7 @@ use world_model::laws::{levels_are_free, marks_suffice, stacks_stand};
 ///
 /// # Errors
 ///
-/// `OutOfMemory` if there is no memory for the mark, or for what the driver does.
+/// `OutOfMemory` if there is no memory for what the driver does.
 #[cycle(engine)]
 #[tactic(auto, unfolding(driver_model::specs::DriverCall::called))]
 pub fn call_driver(
@@ -57,7 +57,7 @@ pub fn call_driver(
     levels_are_free();
     marks_suffice();
     let tpl = world.tpl();
-    let mark = world.mark()?;
+    let mark = world.mark();
     let cap = world.cap(u64::from(settings.call_budget));
     world.spend(CALL_PRICE);
     let kind = event_kind(call.kind);

@@ -47,7 +47,7 @@ fn lay_and_enter(
     marks_suffice();
     stacks_stand();
     let entry = world.next_image() + u64::from(view.entry());
-    let mark = world.mark()?;
+    let mark = world.mark();
     let image = lay_image(world, view, device)?;
     let call = entry_call(image, entry);
     let outcome = call_driver(world, settings, room, scope, &call, &[])?;
@@ -90,7 +90,7 @@ fn pay_and_enter(
 ///
 /// # Errors
 ///
-/// `OutOfMemory` if there is no memory for the image, for the mark, or for what the entry point
+/// `OutOfMemory` if there is no memory for the image, or for what the entry point
 /// does.
 #[cycle(engine)]
 #[tactic(auto, unfolding(driver_model::specs::ImageLife::image_loaded))]

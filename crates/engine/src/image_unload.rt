@@ -43,7 +43,7 @@ fn call_handler(
     }
     levels_are_free();
     marks_suffice();
-    let mark = world.mark()?;
+    let mark = world.mark();
     let call = unload_call(image.handle, handler);
     let outcome = call_driver(world, settings, room, scope, &call, &[])?;
     settle_unload(world, mark, image.handle, outcome)
@@ -63,7 +63,7 @@ fn call_handler(
 ///
 /// # Errors
 ///
-/// `OutOfMemory` if there is no memory for the mark, or for what the handler does.
+/// `OutOfMemory` if there is no memory for what the handler does.
 #[tactic(auto, unfolding(driver_model::specs::Unloading::unloaded))]
 pub fn unload_image(
     world: &mut World,

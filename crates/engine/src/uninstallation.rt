@@ -236,7 +236,7 @@ pub fn uninstall_many(
 {
     levels_are_free();
     marks_suffice();
-    let mark = world.mark()?;
+    let mark = world.mark();
     drivers_may_uninstall();
     let by_driver = Remover::ADriver;
     let all = uninstall_each(world, settings, room, scope, by_driver, interfaces)?;

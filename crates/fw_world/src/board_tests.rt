@@ -81,8 +81,14 @@ fn write_interrupt_line(world: &mut World, line: u64) -> Result<(), DevRefusal>
 #[test]
 fn devices_stay(rt: HostRuntime) -> Result<(), Fail> {
     let mut world = on_two_roots(&rt)?;
-    let mark = world.mark()?;
-    write_interrupt_line(&mut world, 11)?;
+    devices_stay_in(&rt, &mut world)
+}
+
+fn devices_stay_in(rt: &(impl AllocGlobal + Abort), world: &mut World) -> Result<(), Fail>
+    requires { world.old.marks ≡ [] }
+{
+    let mark = world.mark();
+    write_interrupt_line(world, 11)?;
     world.rollback(mark)?;
     assert_eq!(rt; world.board().config_read(0, 0x3C, 1), Ok(11));
     assert_eq!(rt; world.rom_bytes(0), Some(&[0x55, 0xAA, 1][..]));

@@ -3,7 +3,7 @@ use std::marker::Model;
 /// A mark that is open. A contract sees its depth: how many marks were open with it.
 #[derive(Debug, Drop)]
 pub struct Mark {
-    pub(crate) depth: usize,
+    pub(crate) mark: soft_log::Mark,
 }
 
 impl Model for Mark {
@@ -11,5 +11,5 @@ impl Model for Mark {
 
     ghost Value = { ℕ };
 
-    ghost view = { λ mark. mark.depth };
+    ghost view = { λ inside. inside.mark };
 }

@@ -1,4 +1,4 @@
-ghost use Rattle.std.specs.Prelude.{◌≡◌, IfOk, OnOk, length};
+ghost use Rattle.std.specs.Prelude.{◌≡◌, [], IfOk, OnOk, length};
 ghost use Rattle.world_model.specs.Marks.{stacks};
 
 use crate::{World, WorldFault};
@@ -9,6 +9,7 @@ use fw_types::{
 use guest_memory::{GuestMem, SegKind};
 use pci_model::Board;
 use std::alloc::AllocError;
+use std::process::Abort;
 use std::test::Fail;
 use world_model::laws::stacks_stand;
 
@@ -17,6 +18,13 @@ pub(crate) fn bytes_of(rt: &impl AllocGlobal, len: usize, byte: u8) -> Result<Ve
     ensures { IfOk result (λ bytes. length bytes.items ≡ len) }
 {
     vec![in rt.alloc(); byte; len]
+}
+
+/// The opening state of an empty board.
+pub(crate) fn opened(rt: &impl AllocGlobal) -> Result<World, OutOfMemory>
+    ensures { IfOk result (λ world. world.marks ≡ []) }
+{
+    World::new(rt.alloc(), Board::empty(rt.alloc()), Vec::new(rt.alloc()))
 }
 
 /// Whether memory has just so many bytes from an address on, which are 0 except for these fields.
@@ -46,7 +54,7 @@ fn has_bytes(
 /// All bytes of the bus driver's binding.
 #[test]
 fn opening_binding(rt: HostRuntime) -> Result<(), Fail> {
-    let world = World::new(rt.alloc(), Board::empty(rt.alloc()), Vec::new(rt.alloc()))?;
+    let world = opened(&rt)?;
     let binding: [(usize, &[u8]); 6] = [
         // Supported, Start and Stop at 0x22000, 0x22008 and 0x22010
         (0, &[0, 0x20, 2]),
@@ -64,7 +72,7 @@ fn opening_binding(rt: HostRuntime) -> Result<(), Fail> {
 /// All bytes of the firmware's loaded image block.
 #[test]
 fn opening_image_block(rt: HostRuntime) -> Result<(), Fail> {
-    let world = World::new(rt.alloc(), Board::empty(rt.alloc()), Vec::new(rt.alloc()))?;
+    let world = opened(&rt)?;
     let firmware: [(usize, &[u8]); 4] = [
         (0, &[0, 0x10]),
         // the system table at 0x10000
@@ -80,7 +88,7 @@ fn opening_image_block(rt: HostRuntime) -> Result<(), Fail> {
 /// The handles of the opening state, and its numbers.
 #[test]
 fn opening_handles(rt: HostRuntime) -> Result<(), Fail> {
-    let world = World::new(rt.alloc(), Board::empty(rt.alloc()), Vec::new(rt.alloc()))?;
+    let world = opened(&rt)?;
     let firmware = Handle::firmware();
     let image = Guid::known(Known::LoadedImage);
     let binding = Guid::known(Known::DriverBinding);
@@ -102,10 +110,16 @@ fn opening_handles(rt: HostRuntime) -> Result<(), Fail> {
 /// A world with two images: 0x10001 bytes of a boot service driver, with its entry at offset 0x10,
 /// and 0x10000 of a runtime driver, from a device 3 and with the last byte as its entry.
 fn with_images(rt: &impl AllocGlobal) -> Result<(World, Handle), Fail> {
-    let mut world = World::new(rt.alloc(), Board::empty(rt.alloc()), Vec::new(rt.alloc()))?;
+    let mut world = opened(rt)?;
+    let first = add_images(rt, &mut world)?;
+    Ok((world, first))
+}
+
+/// Adds the two images to a new world.
+fn add_images(rt: &impl AllocGlobal, world: &mut World) -> Result<Handle, Fail> {
     let first = world.add_image(bytes_of(rt, 0x1_0001, 0x11)?, 0x10, BOOT_SERVICE_DRIVER, 0)?;
     let _ = world.add_image(bytes_of(rt, 0x1_0000, 0x22)?, 0xffff, RUNTIME_DRIVER, 3)?;
-    Ok((world, first))
+    Ok(first)
 }
 
 /// All bytes of the loaded image block of a runtime driver from a device.
@@ -132,12 +146,20 @@ fn runtime_image_block(rt: HostRuntime) -> Result<(), Fail> {
 #[test]
 fn images_and_thunks(rt: HostRuntime) -> Result<(), Fail> {
     let (mut world, first) = with_images(&rt)?;
+    images_and_thunks_in(&rt, &mut world, first)
+}
+
+fn images_and_thunks_in(
+    rt: &(impl AllocGlobal + Abort),
+    world: &mut World,
+    first: Handle,
+) -> Result<(), Fail> {
     assert_eq!(rt;
         (world.entry_of(3), world.entry_of(4)),
         (Some(0x200_0010), Some(0x202_ffff))
     );
-    assert_eq!(rt; thunk_into(&mut world, 0x201_0000)?, Some(0x40_0000));
-    assert_eq!(rt; thunk_into(&mut world, 0x202_0000)?, Some(0x40_0010));
+    assert_eq!(rt; thunk_into(world, 0x201_0000)?, Some(0x40_0000));
+    assert_eq!(rt; thunk_into(world, 0x202_0000)?, Some(0x40_0010));
     assert_eq!(rt; world.drop_image(first), Ok(()));
     assert_eq!(rt;
         (world.read(0x200_0000, 1), world.read(0x1_0000_0000, 1)),
@@ -147,9 +169,9 @@ fn images_and_thunks(rt: HostRuntime) -> Result<(), Fail> {
         (world.thunk_at(0x40_0000), world.thunk_at(0x40_0010)),
         (None, Some(0x202_0000))
     );
-    let third = world.add_image(bytes_of(&rt, 0x40, 0x33)?, 0, BOOT_SERVICE_DRIVER, 0)?;
+    let third = world.add_image(bytes_of(rt, 0x40, 0x33)?, 0, BOOT_SERVICE_DRIVER, 0)?;
     assert_eq!(rt; (third.get(), world.entry_of(5)), (5, Some(0x203_0000)));
-    assert_eq!(rt; thunk_into(&mut world, 0x203_0000)?, Some(0x40_0020));
+    assert_eq!(rt; thunk_into(world, 0x203_0000)?, Some(0x40_0020));
     Ok(())
 }
 
@@ -167,10 +189,14 @@ const SIZES: [(usize, u64); 6] = [
 /// The addresses of blocks.
 #[test]
 fn block_addresses(rt: HostRuntime) -> Result<(), Fail> {
-    let mut world = World::new(rt.alloc(), Board::empty(rt.alloc()), Vec::new(rt.alloc()))?;
-    let _ = world.add_image(bytes_of(&rt, 0x40, 0)?, 0, BOOT_SERVICE_DRIVER, 0)?;
+    let mut world = opened(&rt)?;
+    block_addresses_in(&rt, &mut world)
+}
+
+fn block_addresses_in(rt: &(impl AllocGlobal + Abort), world: &mut World) -> Result<(), Fail> {
+    let _ = world.add_image(bytes_of(rt, 0x40, 0)?, 0, BOOT_SERVICE_DRIVER, 0)?;
     for (size, at) in SIZES {
-        assert_eq!(rt; world.allot(bytes_of(&rt, size, 0)?, SegKind::Pool), Ok(at));
+        assert_eq!(rt; world.allot(bytes_of(rt, size, 0)?, SegKind::Pool), Ok(at));
     }
     // a block has just its bytes
     assert_eq!(rt;
@@ -184,17 +210,21 @@ fn block_addresses(rt: HostRuntime) -> Result<(), Fail> {
 /// nothing.
 #[test]
 fn most_bytes_of_blocks(rt: HostRuntime) -> Result<(), Fail> {
-    let mut world = World::new(rt.alloc(), Board::empty(rt.alloc()), Vec::new(rt.alloc()))?;
-    let most = bytes_of(&rt, 67_108_864 - 96, 0)?;
+    let mut world = opened(&rt)?;
+    most_bytes_of_blocks_in(&rt, &mut world)
+}
+
+fn most_bytes_of_blocks_in(rt: &(impl AllocGlobal + Abort), world: &mut World) -> Result<(), Fail> {
+    let most = bytes_of(rt, 67_108_864 - 96, 0)?;
     assert_eq!(rt; world.allot(most, SegKind::Pool), Ok(0x1_0000_0000));
-    let image = world.add_image(bytes_of(&rt, 1, 0)?, 0, BOOT_SERVICE_DRIVER, 0)?;
+    let image = world.add_image(bytes_of(rt, 1, 0)?, 0, BOOT_SERVICE_DRIVER, 0)?;
     assert_eq!(rt; image.get(), 3);
     assert_eq!(rt;
-        world.allot(bytes_of(&rt, 1, 0)?, SegKind::Firmware),
+        world.allot(bytes_of(rt, 1, 0)?, SegKind::Firmware),
         Err(WorldFault::Full)
     );
     assert_eq!(rt;
-        world.add_image(bytes_of(&rt, 1, 0)?, 0, BOOT_SERVICE_DRIVER, 0),
+        world.add_image(bytes_of(rt, 1, 0)?, 0, BOOT_SERVICE_DRIVER, 0),
         Err(WorldFault::Full)
     );
     assert_eq!(rt;
@@ -206,7 +236,13 @@ fn most_bytes_of_blocks(rt: HostRuntime) -> Result<(), Fail> {
 
 /// Two events, of which the second begins and ends inside the first.
 fn two_events(rt: &impl AllocGlobal) -> Result<Vec<Event>, Fail> {
-    let mut world = World::new(rt.alloc(), Board::empty(rt.alloc()), Vec::new(rt.alloc()))?;
+    let mut world = opened(rt)?;
+    let events = begin_and_end(&mut world)?;
+    Ok(events)
+}
+
+/// Begins and ends the two events.
+fn begin_and_end(world: &mut World) -> Result<Vec<Event>, OutOfMemory> {
     world.begin_command(64);
     let first = world.begin_event(0, EventKind::Entry, 3, 0, 0)?;
     let second = world.begin_event(first, EventKind::Entry, 4, 5, 6)?;
@@ -324,8 +360,12 @@ fn reads(world: &World, at: u64, bytes: &[u8]) -> bool {
 /// Ranges in which bytes are put, and ranges in which they are not.
 #[test]
 fn ranges(rt: HostRuntime) -> Result<(), Fail> {
-    let mut world = World::new(rt.alloc(), Board::empty(rt.alloc()), Vec::new(rt.alloc()))?;
-    let _ = world.allot(bytes_of(&rt, 8, 0x11)?, SegKind::Pool)?;
+    let mut world = opened(&rt)?;
+    ranges_in(&rt, &mut world)
+}
+
+fn ranges_in(rt: &(impl AllocGlobal + Abort), world: &mut World) -> Result<(), Fail> {
+    let _ = world.allot(bytes_of(rt, 8, 0x11)?, SegKind::Pool)?;
     let puts: [(u64, &[u8], bool); 5] = [
         (0x1_0000_0002, &[1, 2, 3], true),
         // past the end of the block
@@ -336,13 +376,13 @@ fn ranges(rt: HostRuntime) -> Result<(), Fail> {
         (0x2_0000, &[], true),
     ];
     for (at, bytes, done) in puts {
-        assert_eq!(rt; put_at(&mut world, at, bytes)?, done);
+        assert_eq!(rt; put_at(world, at, bytes)?, done);
     }
-    assert_eq!(rt; fill_at(&mut world, 0x1_0000_0004, 3, 9)?, true);
-    assert_eq!(rt; fill_at(&mut world, 0x1_0000_0004, 5, 9)?, false);
-    assert!(rt; reads(&world, 0x1_0000_0000, &[0x11, 0x11, 1, 2, 9, 9, 9, 0x11]));
-    assert!(rt; !reads(&world, 0x1_0000_0007, &[0x11, 0]));
+    assert_eq!(rt; fill_at(world, 0x1_0000_0004, 3, 9)?, true);
+    assert_eq!(rt; fill_at(world, 0x1_0000_0004, 5, 9)?, false);
+    assert!(rt; reads(world, 0x1_0000_0000, &[0x11, 0x11, 1, 2, 9, 9, 9, 0x11]));
+    assert!(rt; !reads(world, 0x1_0000_0007, &[0x11, 0]));
     // the version in the bus driver's binding
-    assert!(rt; reads(&world, 0x1_3018, &[10, 0, 0, 0]));
+    assert!(rt; reads(world, 0x1_3018, &[10, 0, 0, 0]));
     Ok(())
 }

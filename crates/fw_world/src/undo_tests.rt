@@ -1,13 +1,13 @@
 //! What a rollback puts back, and what a commit leaves.
-ghost use Rattle.std.specs.Prelude.{◌≡◌, OnOk};
+ghost use Rattle.std.specs.Prelude.{◌≡◌, [], OnOk};
 ghost use Rattle.world_model.specs.Marks.{stacks};
 
-use crate::tests::bytes_of;
+use crate::tests::{bytes_of, opened};
 use crate::{World, WorldFault};
 use fw_types::{Guid, Handle, Known};
 use guest_memory::{GuestMem, MemRefusal, SegKind};
 use handle_db::DbRefusal;
-use pci_model::Board;
+use std::process::Abort;
 use std::test::Fail;
 use world_model::laws::stacks_stand;
 
@@ -53,15 +53,21 @@ fn write_two(world: &mut World, at: u64, value: u64) -> Result<(), MemRefusal>
 /// A free and an uninstall, undone in the order of their marks. What was spent stays spent.
 #[test]
 fn undone(rt: HostRuntime) -> Result<(), Fail> {
-    let mut world = World::new(rt.alloc(), Board::empty(rt.alloc()), Vec::new(rt.alloc()))?;
+    let mut world = opened(&rt)?;
+    undone_in(&rt, &mut world)
+}
+
+fn undone_in(rt: &(impl AllocGlobal + Abort), world: &mut World) -> Result<(), Fail>
+    requires { world.old.marks ≡ [] }
+{
     let handle = world.install(None, Guid::known(Known::PciIo), 5, Handle::firmware())?;
-    let block = allot_bytes(&mut world, bytes_of(&rt, 24, 0x11)?)?;
+    let block = allot_bytes(world, bytes_of(rt, 24, 0x11)?)?;
     world.begin_command(100);
-    let outer = world.mark()?;
-    free_block(&mut world, block)?;
+    let outer = world.mark();
+    free_block(world, block)?;
     world.set_tpl(8)?;
-    let inner = world.mark()?;
-    uninstall_pci(&mut world, handle)?;
+    let inner = world.mark();
+    uninstall_pci(world, handle)?;
     world.set_tpl(16)?;
     assert_eq!(rt; world.spend(40), true);
     assert_eq!(rt;
@@ -86,15 +92,46 @@ fn undone(rt: HostRuntime) -> Result<(), Fail> {
 /// as it was.
 #[test]
 fn committed(rt: HostRuntime) -> Result<(), Fail> {
-    let mut world = World::new(rt.alloc(), Board::empty(rt.alloc()), Vec::new(rt.alloc()))?;
-    let outer = world.mark()?;
-    let inner = world.mark()?;
-    let block = allot_bytes(&mut world, bytes_of(&rt, 24, 0x11)?)?;
-    assert_eq!(rt; write_two(&mut world, block, 0x2222), Ok(()));
+    let mut world = opened(&rt)?;
+    committed_in(&rt, &mut world)
+}
+
+fn committed_in(rt: &(impl AllocGlobal + Abort), world: &mut World) -> Result<(), Fail>
+    requires { world.old.marks ≡ [] }
+{
+    let outer = world.mark();
+    let inner = world.mark();
+    let block = allot_bytes(world, bytes_of(rt, 24, 0x11)?)?;
+    assert_eq!(rt; write_two(world, block, 0x2222), Ok(()));
     world.commit(inner);
     assert_eq!(rt; world.read(block, 4), Some(0x1111_2222));
     world.rollback(outer)?;
     assert_eq!(rt; world.read(block, 1), None);
-    assert_eq!(rt; allot_bytes(&mut world, bytes_of(&rt, 8, 0)?), Ok(block));
+    assert_eq!(rt; allot_bytes(world, bytes_of(rt, 8, 0)?), Ok(block));
+    Ok(())
+}
+
+/// A `copy` and a `clone` of this test's own.
+trait Absent {
+    fn copy(&self) -> u64;
+
+    fn clone(&self) -> u64;
+}
+
+impl Absent for World {
+    fn copy(&self) -> u64 {
+        1
+    }
+
+    fn clone(&self) -> u64 {
+        2
+    }
+}
+
+/// A world has no call that copies it, and is not Clone: else these would not be the calls of `Absent`.
+#[test]
+fn no_copies(rt: HostRuntime) -> Result<(), Fail> {
+    let world = opened(&rt)?;
+    assert_eq!(rt; (world.copy(), world.clone()), (1, 2));
     Ok(())
 }

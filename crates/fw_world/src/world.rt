@@ -39,7 +39,7 @@ use handle_db::{Db, DbRefusal};
 use open_records::{RecFault, Records};
 use pci_model::laws::boards_are_small;
 use pci_model::{Board, DevRefusal, Space};
-use soft_part::SoftPart;
+use soft_log::SoftLog;
 use std::alloc::Global;
 use std::marker::Model;
 use world_model::{LoadedImage, WorldFault};
@@ -55,16 +55,15 @@ const FIRST_ROOT: u64 = 3;
 #[derive(Drop)]
 pub struct World {
     alloc: Global,
-    soft: SoftPart,
+    soft: SoftLog,
     units: u64,
     events: Vec<Event>,
     board: Board,
     roms: Vec<Option<Vec<u8>>>,
-    marks: Vec<SoftPart>,
 }
 
 impl Model for World {
-    ghost use Rattle.std.specs.Prelude.{◌≡◌, reverse, true};
+    ghost use Rattle.std.specs.Prelude.{◌≡◌, true};
     ghost use Rattle.world_model.specs.World.{WorldView};
     ghost use Rattle.world_model.specs.Boards.{roms_in};
     ghost use Rattle.world_model.specs.Events.{are_numbered};
@@ -73,7 +72,7 @@ impl Model for World {
 
     ghost view = { λ inside. record {
       now = record {
-        soft = inside.soft;
+        soft = inside.soft.now;
         hard = record {
           units = inside.units;
           events = inside.events.items;
@@ -81,7 +80,7 @@ impl Model for World {
           roms = roms_in inside.roms.items;
         };
       };
-      marks = reverse inside.marks.items;
+      marks = inside.soft.marks;
     } };
 
     ghost invariant = { λ inside. are_numbered 1 inside.events.items ≡ true };
@@ -107,7 +106,7 @@ impl World {
     {
         board.soundness();
         boards_are_small();
-        let soft = SoftPart::new(alloc, roms.len(), board.roots())?;
+        let soft = SoftLog::new(alloc, roms.len(), board.roots())?;
         Ok(World {
             alloc,
             soft,
@@ -115,7 +114,6 @@ impl World {
             events: Vec::new(alloc),
             board,
             roms,
-            marks: Vec::new(alloc),
         })
     }
 
@@ -135,7 +133,7 @@ impl World {
     pub fn is_kept(&self)
         ensures { IsKept self.now.now.soft }
     {
-        self.soft.is_kept();
+        self.soft.soft().is_kept();
     }
 
     // ---- the board
@@ -214,7 +212,7 @@ impl World {
     pub fn is_child_full(&self, path_size: u64, has_rom: bool) -> bool
         ensures { result ≡ is_child_full path_size has_rom self.now.now.soft }
     {
-        self.soft.is_child_full(path_size, has_rom)
+        self.soft.soft().is_child_full(path_size, has_rom)
     }
 
     /// The function of a child of the bus; `None` exactly if the number is not that of a handle
@@ -222,7 +220,7 @@ impl World {
     pub fn child_function(&self, h: u64) -> Option<u32>
         ensures { result ≡ child_function h self.now.now.soft }
     {
-        self.soft.child_function(h)
+        self.soft.soft().child_function(h)
     }
 
     /// The child of function `f` with the least handle; `None` exactly if there is none. Takes no
@@ -230,7 +228,7 @@ impl World {
     pub fn child_of(&self, f: u32) -> Option<Handle>
         ensures { result ≡ child_of f self.now.now.soft }
     {
-        self.soft.child_of(f)
+        self.soft.soft().child_of(f)
     }
 
     /// The function of the child of the bus whose PCI I/O of the firmware is at an address (UEFI
@@ -238,7 +236,7 @@ impl World {
     pub fn pci_at(&self, this: u64) -> Option<u32>
         ensures { result ≡ pci_at this self.now.now.soft }
     {
-        self.soft.pci_at(this)
+        self.soft.soft().pci_at(this)
     }
 
     /// Makes `f` the function of a handle with PCI I/O of the firmware, until that interface is
@@ -261,7 +259,7 @@ impl World {
     pub fn rom_done(&self, f: u32) -> bool
         ensures { result ≡ rom_done f self.now.now.soft }
     {
-        self.soft.rom_done(f)
+        self.soft.soft().rom_done(f)
     }
 
     /// The bus list of function `f`: the images that its option ROM brought, in order, and none
@@ -269,7 +267,7 @@ impl World {
     pub fn bus_list(&self, f: u32) -> &[Handle]
         ensures { result.now ≡ bus_list f self.now.now.soft }
     {
-        self.soft.bus_list(f)
+        self.soft.soft().bus_list(f)
     }
 
     /// Sets the bus list of function `f`, whose option ROM then counts as processed.
@@ -282,8 +280,7 @@ impl World {
             on_soft (with_bus_list f images.items) self.old.now) }
         ensures marks { OnOk result (self.new.marks ≡ self.old.marks) }
     {
-        self.soft.set_bus_list(f, images);
-        Ok(())
+        self.soft.set_bus_list(f, images)
     }
 
     // ---- the task priority level
@@ -292,7 +289,7 @@ impl World {
     pub fn tpl(&self) -> u8
         ensures { result ≡ self.now.now.soft.tpl }
     {
-        self.soft.tpl()
+        self.soft.soft().tpl()
     }
 
     /// Sets the task priority level.
@@ -304,8 +301,7 @@ impl World {
         ensures now { OnOk result (self.new.now ≡ on_soft (with_tpl tpl) self.old.now) }
         ensures marks { OnOk result (self.new.marks ≡ self.old.marks) }
     {
-        self.soft.set_tpl(tpl);
-        Ok(())
+        self.soft.set_tpl(tpl)
     }
 
     // ---- blocks of the pool and of the firmware
@@ -352,7 +348,7 @@ impl World {
     pub fn can_read(&self, at: u64, n: u64) -> bool
         ensures { result ≡ is_readable self.now.now.soft.memory at n }
     {
-        self.soft.can_read(at, n)
+        self.soft.soft().can_read(at, n)
     }
 
     /// Whether `n` bytes from an address on can be written: one segment has them all, and drivers
@@ -360,7 +356,7 @@ impl World {
     pub fn can_write(&self, at: u64, n: u64) -> bool
         ensures { result ≡ is_writable_range self.now.now.soft.memory at n }
     {
-        self.soft.can_write(at, n)
+        self.soft.soft().can_write(at, n)
     }
 
     /// The `n` bytes from an address on, which can be read (`can_read`). Takes no memory.
@@ -369,7 +365,7 @@ impl World {
         ensures bytes { result.now ≡ bytes_of self.now.now.soft.memory at n }
         ensures size { length result.now ≡ n }
     {
-        self.soft.bytes(at, n)
+        self.soft.soft().bytes(at, n)
     }
 
     /// Puts bytes in place of those from an address on, which can be written (`can_write`).
@@ -383,8 +379,7 @@ impl World {
             on_soft (with_memory (put_bytes self.old.now.soft.memory at bytes.now)) self.old.now) }
         ensures marks { OnOk result (self.new.marks ≡ self.old.marks) }
     {
-        self.soft.put(at, bytes);
-        Ok(())
+        self.soft.put(at, bytes)
     }
 
     /// Puts a byte in place of each of the `n` from an address on, which can be written
@@ -400,8 +395,7 @@ impl World {
             self.old.now) }
         ensures marks { OnOk result (self.new.marks ≡ self.old.marks) }
     {
-        self.soft.fill(at, n, byte);
-        Ok(())
+        self.soft.fill(at, n, byte)
     }
 
     // ---- the handle database
@@ -410,7 +404,7 @@ impl World {
     pub fn db(&self) -> &Db
         ensures { result.now ≡ self.now.now.soft.database }
     {
-        self.soft.db()
+        self.soft.soft().db()
     }
 
     /// The open records: which agent has which interface open, for which controller and how (UEFI
@@ -418,7 +412,7 @@ impl World {
     pub fn entries(&self) -> &Records
         ensures { result.now ≡ self.now.now.soft.records }
     {
-        self.soft.entries()
+        self.soft.soft().entries()
     }
 
     /// Installs an interface of a protocol on a handle, or on a new one if none is named, and
@@ -519,7 +513,7 @@ impl World {
             on_soft (records_left handle guid agent controller) self.old.now) }
         ensures marks { OnOk result (self.new.marks ≡ self.old.marks) }
     {
-        Ok(self.soft.leave(handle, guid, agent, controller))
+        self.soft.leave(handle, guid, agent, controller)
     }
 
     /// Removes an agent's records on all interfaces of a handle, and answers how many they were.
@@ -533,7 +527,7 @@ impl World {
         ensures now { OnOk result (self.new.now ≡ on_soft (all_left handle agent) self.old.now) }
         ensures marks { OnOk result (self.new.marks ≡ self.old.marks) }
     {
-        Ok(self.soft.leave_all(handle, agent))
+        self.soft.leave_all(handle, agent)
     }
 
     /// Removes an agent's BY_CHILD_CONTROLLER records for a child on all interfaces of a handle,
@@ -554,7 +548,7 @@ impl World {
             on_soft (child_left handle agent child) self.old.now) }
         ensures marks { OnOk result (self.new.marks ≡ self.old.marks) }
     {
-        Ok(self.soft.leave_child(handle, agent, child))
+        self.soft.leave_child(handle, agent, child)
     }
 
     /// Removes the records BY_HANDLE_PROTOCOL, GET_PROTOCOL and TEST_PROTOCOL of an interface, and
@@ -569,7 +563,7 @@ impl World {
         ensures now { OnOk result (self.new.now ≡ on_soft (weak_dropped handle guid) self.old.now) }
         ensures marks { OnOk result (self.new.marks ≡ self.old.marks) }
     {
-        Ok(self.soft.drop_weak(handle, guid))
+        self.soft.drop_weak(handle, guid)
     }
 
     // ---- images
@@ -649,7 +643,7 @@ impl World {
         ensures block { IfSome result
             (λ image. is_readable self.now.now.soft.memory image.block block_size ≡ true) }
     {
-        self.soft.loaded_image(handle)
+        self.soft.soft().loaded_image(handle)
     }
 
     /// Whether one more image of `size` bytes passes a limit: the errors `Full` of `add_image`.
@@ -657,21 +651,21 @@ impl World {
     pub fn is_image_full(&self, size: u64) -> bool
         ensures { result ≡ is_image_full size self.now.now.soft }
     {
-        self.soft.is_image_full(size)
+        self.soft.soft().is_image_full(size)
     }
 
     /// The address at which the next image would be mapped. Takes no memory.
     pub fn next_image(&self) -> u64
         ensures { result ≡ self.now.now.soft.next_image }
     {
-        self.soft.next_image()
+        self.soft.soft().next_image()
     }
 
     /// The address at which the next block would be made. Takes no memory.
     pub fn next_block(&self) -> u64
         ensures { result ≡ self.now.now.soft.next_block }
     {
-        self.soft.next_block()
+        self.soft.soft().next_block()
     }
 
     /// The image whose bytes an address lies in, of those that `add_image` added; `None` exactly if
@@ -679,7 +673,7 @@ impl World {
     pub fn image_at(&self, at: u64) -> Option<Handle>
         ensures { result ≡ image_value at self.now.now.soft }
     {
-        self.soft.image_at(at)
+        self.soft.soft().image_at(at)
     }
 
     /// The address of an image's entry point; `None` exactly if the number is no handle of an image
@@ -687,7 +681,7 @@ impl World {
     pub fn entry_of(&self, handle: u64) -> Option<u64>
         ensures { result ≡ entry_value handle self.now.now.soft }
     {
-        self.soft.entry_of(handle)
+        self.soft.soft().entry_of(handle)
     }
 
     // ---- thunks
@@ -713,7 +707,7 @@ impl World {
     pub fn thunk_at(&self, at: u64) -> Option<u64>
         ensures { result ≡ thunk_value at self.now.now.soft }
     {
-        self.soft.thunk_at(at)
+        self.soft.soft().thunk_at(at)
     }
 
     // ---- stacks
@@ -906,21 +900,15 @@ impl World {
     // ---- marks
 
     /// Keeps the soft part as it is now, so that `rollback` can put it back. Fewer than 65,536
-    /// marks are open.
-    ///
-    /// # Errors
-    ///
-    /// `OutOfMemory` if there is no memory.
-    pub fn mark(&mut self) -> Result<Mark, OutOfMemory>
+    /// marks are open. Takes no memory.
+    pub fn mark(&mut self) -> Mark
         requires { depth self.old < most_marks }
-        ensures depth { IfOk result (λ mark. mark ≡ depth self.new) }
-        ensures marked { OnOk result (self.new ≡ marked self.old) }
+        ensures depth { result ≡ depth self.new }
+        ensures marked { self.new ≡ marked self.old }
     {
-        let soft = self.soft.copy()?;
-        self.marks.push(soft)?;
-        Ok(Mark {
-            depth: self.marks.len(),
-        })
+        Mark {
+            mark: self.soft.mark(),
+        }
     }
 
     /// Puts the soft part back that a mark keeps, and spends the mark. It is the newest that is
@@ -934,10 +922,7 @@ impl World {
         requires stacks { stacks self.old.now.soft ≡ marked_stacks self.old }
         ensures { OnOk result (self.new ≡ rolled_back self.old) }
     {
-        if let Some(soft) = self.marks.pop() {
-            self.soft = soft;
-        }
-        Ok(())
+        self.soft.rollback(m.mark)
     }
 
     /// Spends a mark, and leaves the soft part as it is. It is the newest that is open. Takes no
@@ -946,7 +931,7 @@ impl World {
         requires newest { m ≡ depth self.old }
         ensures { self.new ≡ committed self.old }
     {
-        let _ = self.marks.pop();
+        self.soft.commit(m.mark);
     }
 }
 
@@ -984,7 +969,7 @@ impl GuestMem for World {
 
     #[inline]
     fn read(&self, at: u64, n: u8) -> Option<u64> {
-        self.soft.read(at, n)
+        self.soft.soft().read(at, n)
     }
 
     #[inline]
@@ -994,6 +979,6 @@ impl GuestMem for World {
 
     #[inline]
     fn fetch(&self, at: u64, into: &mut [u8; 18]) -> u8 {
-        self.soft.fetch(at, into)
+        self.soft.soft().fetch(at, into)
     }
 }

@@ -1,5 +1,5 @@
 -- What holds of every soft part, as the calls on its fields leave it.
-use Rattle.std.proofs.Common.{◌≡◌, ◌∙◌, ◌<◌, ◌≤◌, ℕ, ◌+◌, Bool, true, false, ◌||◌, cond, length, nat_eq, nat_lt, List, [], ◌∷◌, find, Option, Some, None, sym, subst, refl, ap, arith, ◌++◌}
+use Rattle.std.proofs.Common.{◌≡◌, ◌∙◌, ◌<◌, ◌≤◌, ℕ, ◌+◌, Bool, true, false, not, ◌&&◌, ◌||◌, cond, length, nat_eq, nat_lt, List, [], ◌∷◌, find, Option, Some, None, sym, subst, refl, ap, arith, ◌++◌}
 use Rattle.std.specs.Prelude.{Result, Ok, Err, OnOk, OnErr, is_ok, is_some, option_map, if◌then◌else◌}
 use Rattle.std.specs.List.{list_any}
 use Rattle.std.proofs.lemmas.Bool.{both_ways}
@@ -9,7 +9,8 @@ use Rattle.fw_types.specs.declared.memory.OutOfMemory.{OutOfMemory}
 use Rattle.fw_types.specs.declared.guid.Known.TheVariants.{LoadedImage as LoadedImageProtocol}
 use Rattle.guest_memory.specs.declared.guest.MemRefusal.{MemRefusal}
 use Rattle.guest_memory.specs.declared.segment.Segment.{Segment}
-use Rattle.guest_memory.specs.GuestMemory.{Gives as GivesWrite, beginning_at, mapped, unmapped, write_answer, written}
+use Rattle.guest_memory.specs.declared.segment.SegKind.{SegKind}
+use Rattle.guest_memory.specs.GuestMemory.{Gives as GivesWrite, beginning_at, begins, is_of, mapped, unmapped, write_answer, written}
 use Rattle.handle_db.specs.declared.handle_entry.HandleEntry.{HandleEntry}
 use Rattle.handle_db.specs.declared.handle_entry.Interface.{Interface}
 use Rattle.handle_db.specs.declared.refusal.DbRefusal.{DbRefusal}
@@ -18,6 +19,9 @@ use Rattle.handle_db.specs.Database.{Database, Gives, interface_of, interfaces_i
 use Rattle.fw_types.specs.Attr.{is_legal}
 use Rattle.open_records.specs.declared.fault.RecFault.{RecFault}
 use Rattle.open_records.specs.OpenRecords.{RecordTable, records_of}
+use Rattle.open_records.specs.declared.open_record.KeyedRecord.{KeyedRecord}
+use Rattle.open_records.specs.declared.undoing.Choice.{Choice}
+use Rattle.open_records.specs.PuttingBack.{picks, without_passing}
 use Rattle.open_records.specs.Adding.{Gives as GivesRecord, added, is_full as is_table_full}
 use Rattle.open_records.specs.Verdicts.{judge, may_enter}
 use Rattle.handle_db.specs.Installing.{install_answer, installed, is_full as is_database_full}
@@ -39,8 +43,8 @@ use Rattle.world_model.proofs.KeepingBlocks.{writing}
 use Rattle.world_model.proofs.ImageLists.{found_passes}
 use Rattle.world_model.proofs.KeepingImages.{adding, dropping}
 use Rattle.world_model.proofs.KeepingInterfaces.{installing}
-use Rattle.world_model.proofs.KeepingRecords.{entering}
-use Rattle.world_model.proofs.RecordParties.{has_from}
+use Rattle.world_model.proofs.KeepingRecords.{entering, kept_with}
+use Rattle.world_model.proofs.RecordParties.{has_from, records-filter}
 
 -- a database in which an interface was installed, or not
 pub kept_installed : (soft : Soft) (who : Option ℕ) (new : Interface) (result : Result ℕ DbRefusal) (after : Database) → IsKept soft → Gives result (install_answer who new.guid soft.database)
@@ -82,6 +86,20 @@ unmapped-mapped new (s ∷ rest) = by_order (nat_lt s.base new.base) refl (unmap
     by_order : (before : Bool) → nat_lt s.base new.base ≡ before → unmapped (mapped new rest) new.base ≡ rest → unmapped (cond before (s ∷ mapped new rest) (new ∷ s ∷ rest)) new.base ≡ s ∷ rest
     by_order true is later = let other : nat_eq s.base new.base ≡ false = grind (arith, nat_tests) in rw other (ap (λ others. s ∷ others) later)
     by_order false is later = let same : nat_eq new.base new.base ≡ true = grind (arith, nat_tests) in rw same refl
+
+-- after a second segment was refused, the first is unmapped again
+pub unmapped_again : (result : Result Unit OutOfMemory) (after between last before : List Segment) (first : Segment) → OnErr result (after ≡ between) → between ≡ mapped first before → last ≡ unmapped after first.base
+    → OnErr result (last ≡ before)
+unmapped_again (Ok done) after between last before first err is unmapped_is = tt
+unmapped_again (Err error) after between last before first err is unmapped_is =
+    unmapped_is ∙ ap (λ (segments : List Segment). unmapped segments first.base) (err ∙ is) ∙ unmapped-mapped first before
+
+-- two segments were mapped, and are unmapped again
+pub unmapped_both : (result : Result Unit OutOfMemory) (after between last before : List Segment) (segment block : Segment) → after ≡ mapped segment (mapped block before) → between ≡ unmapped after segment.base → last ≡ unmapped between block.base
+    → OnErr result (last ≡ before)
+unmapped_both (Ok done) after between last before segment block is first second = tt
+unmapped_both (Err error) after between last before segment block is first second =
+    second ∙ ap (λ (segments : List Segment). unmapped segments block.base) (first ∙ ap (λ (segments : List Segment). unmapped segments segment.base) is ∙ unmapped-mapped segment (mapped block before)) ∙ unmapped-mapped block before
 
 -- an entry that is found is live
 found_live : (handle : ℕ) (entries : List HandleEntry) (entry : HandleEntry) → find (is_handle handle) entries ≡ Some entry → list_any (is_handle handle) entries ≡ true
@@ -157,3 +175,24 @@ pub kept_noted : (soft : Soft) (handle function pci_io : ℕ) (after : List BusC
 kept_noted soft handle function pci_io after kept there new room at is =
     let noted : IsKept (child_noted handle function soft) = noting soft handle function kept there new in
     rw (is, at) (rw room at noted)
+
+-- ---- blocks
+
+-- a segment of a kind that begins at an address is found there
+pub begins_found : (kind : SegKind) (base : ℕ) (segments : List Segment) → begins kind base segments ≡ true → is_ok (beginning_at segments base) ≡ true
+begins_found kind base [] there = absurd cc
+begins_found kind base (s ∷ rest) there = by_head (nat_eq s.base base) (is_of kind s) there (λ later. begins_found kind base rest later)
+  where
+    by_head : (here own : Bool) → (here && own || begins kind base rest) ≡ true → (begins kind base rest ≡ true → is_ok (beginning_at rest base) ≡ true) → is_ok (cond here (Ok s) (beginning_at rest base)) ≡ true
+    by_head true own there later = refl
+    by_head false own there later = later there
+
+-- ---- records that go
+
+-- records without those of a choice, or not
+pub kept_taken : {T : Type 0} (soft : Soft) (choice : Choice) (result : Result T OutOfMemory) (after : RecordTable) → IsKept soft
+    → OnOk result (after ≡ without_passing (picks choice) soft.records) → OnErr result (after ≡ soft.records) → IsKept (record soft { records = after })
+kept_taken soft choice (Ok done) after kept ok err =
+    subst (λ (table : RecordTable). IsKept (record soft { records = table })) (sym ok)
+    (kept_with soft (without_passing (picks choice) soft.records) kept (records-filter (λ (one : KeyedRecord). not (picks choice one)) soft.database soft.records kept.records))
+kept_taken soft choice (Err error) after kept ok err = subst (λ (table : RecordTable). IsKept (record soft { records = table })) (sym err) kept

@@ -1,3 +1,5 @@
 pub mod Keeps
+pub mod Noted
 pub mod Order
+pub mod Placing
 pub mod RootHandles

@@ -7,6 +7,11 @@ use Rattle.open_records.specs.declared.fault.RecFault.TheVariants as rec_fault
 use Rattle.world_model.specs.declared.fault.WorldFault.{WorldFault}
 use Rattle.world_model.specs.declared.fault.WorldFault.TheVariants.{Full, NotThere, OutOfMemory}
 
+-- an answer without its value
+abbrev pub done : {T : Type 0} → Result T WorldFault → Result Unit WorldFault
+done (Ok value) = Ok tt
+done (Err fault) = Err fault
+
 -- After a refusal other than OutOfMemory all is as before.
 abbrev pub AsBefore : {T W : Type 0} → Result T WorldFault → W → W → Type 0
 AsBefore (Ok value) old new = Unit {0}

@@ -29,7 +29,3 @@ with_plain plain soft = soft_of soft.memory soft.database soft.records plain
 -- whether plain fields are those of the opening state of a board with so many functions
 abbrev pub IsOpening : (functions : ℕ) → PlainPart → Type 0
 IsOpening functions plain = with_plain plain (firmware_soft functions) ≡ firmware_soft functions
-
--- whether plain fields are the same
-abbrev pub IsCopyOf : PlainPart → PlainPart → Type 0
-IsCopyOf plain copy = (soft : Soft) → with_plain copy soft ≡ with_plain plain soft

@@ -1,10 +1,15 @@
 //! Children of the bus, and the bus lists of the board's functions.
-ghost use Rattle.std.specs.Prelude.{◌≡◌, IfOk, None, replicate};
-ghost use Rattle.world_model.specs.BusChildren.{children_left, first_child, function_at, function_of, pci_io_of, without_child};
+ghost use Rattle.std.specs.Prelude.{◌≡◌, IfOk, None, OnErr, OnOk, find, option_map, replicate, slice_get, slice_set, unwrap_or};
+ghost use Rattle.std.specs.List.{position, position_or_len};
+ghost use Rattle.world_model.specs.BusChildren.{children_left, first_child, function_at, function_of, is_child, pci_io_of, without_child};
+ghost use Rattle.world_model.specs.Undo.{with_child};
+ghost use Rattle.world_model.specs.UndoLaws.{child_gone};
+ghost use Rattle.world_model.specs.declared.bus_child.BusChild.{BusChild as Child};
 
 use fw_types::{Guid, Handle, Known, OutOfMemory, Rows};
 use handle_db::Db;
 use std::alloc::Global;
+use std::mem;
 use world_model::BusChild;
 
 /// The images that an option ROM brought, or `None` before it is processed.
@@ -51,13 +56,64 @@ pub fn function_at(children: &[BusChild], this: u64) -> Option<u32>
         .map(|child| child.function)
 }
 
-/// A handle whose PCI I/O is removed is no child any more.
-pub fn drop_child(children: &mut Vec<BusChild>, handle: Handle, guid: Guid)
-    ensures { children.new.items ≡ children_left handle guid children.old.items }
+/// A handle whose PCI I/O is removed is no child any more. Answers the child that it was, with its place.
+pub fn take_child(
+    children: &mut Vec<BusChild>,
+    handle: Handle,
+    guid: Guid,
+) -> Option<(usize, BusChild)>
+    ensures gone { result ≡ child_gone handle guid children.old.items }
+    ensures left { children.new.items ≡ children_left handle guid children.old.items }
 {
-    if guid == Guid::known(Known::PciIo) {
-        drop_handle(children, handle);
+    if guid != Guid::known(Known::PciIo) {
+        return None;
     }
+    let gone = placed(children.as_slice(), handle.get());
+    drop_handle(children, handle);
+    gone
+}
+
+/// The child of a handle, with its place.
+fn placed(children: &[BusChild], handle: u64) -> Option<(usize, BusChild)>
+    ensures { result ≡ option_map (λ (child : Child). (position_or_len (is_child handle) children.now, child))
+        (find (is_child handle) children.now) }
+{
+    let place = place_of(children, handle);
+    children
+        .iter()
+        .find(|child| child.handle.get() == handle)
+        .map(|child| (place, *child))
+}
+
+/// The place of the child of a handle, or how many children there are if it is none.
+fn place_of(children: &[BusChild], handle: u64) -> usize
+    ensures { result ≡ position_or_len (is_child handle) children.now }
+{
+    position_of(children, handle).unwrap_or(children.len())
+}
+
+/// The place of the child of a handle.
+fn position_of(children: &[BusChild], handle: u64) -> Option<usize>
+    ensures { result ≡ position (is_child handle) children.now }
+{
+    children
+        .iter()
+        .position(|child| child.handle.get() == handle)
+}
+
+/// Puts a child that went in its place again. There is room for it.
+pub fn put_child(
+    children: &mut Vec<BusChild>,
+    gone: Option<(usize, BusChild)>,
+) -> Result<(), OutOfMemory>
+    ensures ok { OnOk result (children.new.items ≡ with_child gone children.old.items) }
+    ensures err { OnErr result (children.new.items ≡ children.old.items) }
+{
+    if let Some((place, child)) = gone {
+        let place = place.min(children.len());
+        children.insert(place, child)?;
+    }
+    Ok(())
 }
 
 /// Without the child of a handle.
@@ -66,6 +122,18 @@ fn drop_handle(children: &mut Vec<BusChild>, handle: Handle)
 {
     let number = handle.get();
     children.retain(|child| child.handle.get() != number);
+}
+
+/// Puts a bus list in place of that of a function, and answers the one of before. If there is no such
+/// function, nothing changes.
+pub fn replace_list(lists: &mut Vec<BusList>, function: u32, list: BusList) -> BusList
+    ensures before { result ≡ unwrap_or (slice_get lists.old.items function) None }
+    ensures now { lists.new.items ≡ slice_set lists.old.items function list }
+{
+    match lists.get_mut(function as usize) {
+        Some(place) => mem::replace(place, list),
+        None => None,
+    }
 }
 
 /// A bus list for each of so many functions, before their option ROMs are processed.
@@ -81,33 +149,4 @@ pub fn first_lists(alloc: Global, functions: usize) -> Result<Vec<BusList>, OutO
         lists.push(None)?;
     }
     Ok(lists)
-}
-
-/// Equal bus lists.
-///
-/// # Errors
-///
-/// `OutOfMemory` if there is no memory.
-pub fn copies_of(alloc: Global, lists: &[BusList]) -> Result<Vec<BusList>, OutOfMemory>
-    ensures { IfOk result (λ copies. copies.items ≡ lists.now) }
-{
-    let mut copies = Vec::with_capacity(alloc, lists.len())?;
-    for list in lists {
-        copies.push(copy_of(alloc, list)?)?;
-    }
-    Ok(copies)
-}
-
-/// An equal bus list.
-///
-/// # Errors
-///
-/// `OutOfMemory` if there is no memory.
-fn copy_of(alloc: Global, list: &BusList) -> Result<BusList, OutOfMemory>
-    ensures { IfOk result (λ copy. copy ≡ list.now) }
-{
-    match list {
-        Some(images) => Ok(Some(Rows::of(Vec::from_slice(alloc, images.as_slice())?))),
-        None => Ok(None),
-    }
 }

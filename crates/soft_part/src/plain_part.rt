@@ -1,9 +1,9 @@
 //! The plain fields of the soft part: those beside the memory of drivers, the handle database and
 //! the open records.
 ghost use Rattle.std.specs.Prelude.{IfOk};
-ghost use Rattle.soft_part.specs.Soft.{IsCopyOf, IsOpening};
+ghost use Rattle.soft_part.specs.Soft.{IsOpening};
 
-use crate::bus_children::{BusList, copies_of, first_lists};
+use crate::bus_children::{BusList, first_lists};
 use fw_types::OutOfMemory;
 use guest_memory::address_map::{FIRST_BLOCK, FIRST_IMAGE};
 use std::alloc::Global;
@@ -51,26 +51,6 @@ impl PlainPart {
             next_image: FIRST_IMAGE,
             next_block: FIRST_BLOCK,
             next_thunk: 0,
-        })
-    }
-
-    /// A copy.
-    ///
-    /// # Errors
-    ///
-    /// `OutOfMemory` if there is no memory.
-    pub fn copy(&self, alloc: Global) -> Result<PlainPart, OutOfMemory>
-        ensures { IfOk result (IsCopyOf self.now) }
-    {
-        Ok(PlainPart {
-            images: Vec::from_slice(alloc, self.images.as_slice())?,
-            thunks: Vec::from_slice(alloc, self.thunks.as_slice())?,
-            bus_children: Vec::from_slice(alloc, self.bus_children.as_slice())?,
-            bus_lists: copies_of(alloc, self.bus_lists.as_slice())?,
-            tpl: self.tpl,
-            next_image: self.next_image,
-            next_block: self.next_block,
-            next_thunk: self.next_thunk,
         })
     }
 }

@@ -1,51 +1,61 @@
-ghost use Rattle.std.specs.Prelude.{◌≡◌, ◌^◌, ◌<◌, ◌≤◌, ◌||◌, true, false, IfOk, IfSome, OnErr, OnOk, Some, is_some, length, option_copied, replicate, None};
-ghost use Rattle.guest_memory.specs.Segment.{is_block};
-ghost use Rattle.guest_memory.specs.GuestMemory.{beginning_at, bytes_of, is_readable, is_writable_range, put_bytes, unmapped};
+ghost use Rattle.std.specs.List.{position, position_or_len};
+ghost use Rattle.std.specs.Prelude.{◌≡◌, ◌^◌, ◌<◌, ◌≤◌, ◌||◌, true, false, IfOk, IfSome, OnErr, OnOk, Some, filter, insert, is_some, length, option_copied, replicate, take, None, Ok};
+ghost use Rattle.guest_memory.specs.Segment.{is_access, is_block};
+ghost use Rattle.guest_memory.specs.GuestMemory.{beginning_at, bytes_of, is_readable, is_writable_range, lie_from, mapped, put_bytes, unmapped};
+ghost use Rattle.fw_types.specs.Guid.{known_guid};
+ghost use Rattle.fw_types.specs.declared.guid.Known.TheVariants.{LoadedImage as LoadedImageProtocol};
 ghost use Rattle.handle_db.specs.Database.{Gives as GivesDb, interface_of, is_live};
-ghost use Rattle.open_records.specs.OpenRecords.{records_of};
+ghost use Rattle.handle_db.specs.Undoing.{HasRoomFor, IsInstalledLast, remove_undone};
+ghost use Rattle.open_records.specs.OpenRecords.{IsSound as RecordsAreSound, records_of};
 ghost use Rattle.open_records.specs.Adding.{Gives as GivesRecord, is_full as is_table_full};
 ghost use Rattle.open_records.specs.Verdicts.{judge, may_enter};
-ghost use Rattle.world_model.specs.Records.{all_left, child_left, is_none_or_live, record_entered, records_left, removed_count, weak_dropped};
+ghost use Rattle.open_records.specs.PuttingBack.{count_of, gone_by, picks, put_back, without_passing};
+ghost use Rattle.world_model.specs.Records.{is_none_or_live, record_entered, with_records};
 ghost use Rattle.fw_types.specs.declared.limits.TheConstants.{MOST_LEVELS as most_levels, MOST_LISTED as most_listed};
 ghost use Rattle.guest_memory.specs.declared.address_map.TheConstants.{IMAGE_END as last_image};
 ghost use Rattle.world_model.specs.World.{with_memory, with_tpl};
 ghost use Rattle.world_model.specs.Faults.{Gives};
 ghost use Rattle.world_model.specs.Blocks.{allot_answer, block_added, block_freed, free_answer, is_block_full, is_image_block, block_room as block_room_of};
-ghost use Rattle.world_model.specs.Interfaces.{firmware, install_answer, interface as interface_value, interface_added, interface_removed, is_lasting, uninstall_answer};
+ghost use Rattle.world_model.specs.Interfaces.{firmware, install_answer, interface as interface_value, interface_added, interface_removed, is_lasting, uninstall_answer, without_value};
 ghost use Rattle.world_model.specs.Images.{add_answer, block_bytes as block_value, block_size, drop_answer, entry_of as entry_value, image_added, image_at as image_value, image_dropped, image_from, image_of as image_found, is_image_full, next_step as first_step, without_image};
 ghost use Rattle.world_model.specs.ImageSweep.{image_swept};
-ghost use Rattle.world_model.specs.Thunks.{thunk_answer, thunk_at as thunk_value, thunk_made, without_thunks};
+ghost use Rattle.world_model.specs.Thunks.{enters, thunk_answer, thunk_at as thunk_value, thunk_made, without_thunks};
 ghost use Rattle.world_model.specs.Stacks.{frame as frame_value, has_stack, stack_popped, stack_pushed};
 ghost use Rattle.world_model.specs.CommandPath.{has_no_path, path_cleared, path_room, path_set};
-ghost use Rattle.world_model.specs.BusChildren.{bus_list, child_function, child_noted, child_of, pci_at, rom_done, with_bus_list};
+ghost use Rattle.world_model.specs.BusChildren.{bus_list, child_function, child_noted, child_of, pci_at, rom_done, rom_images, with_bus_list};
 ghost use Rattle.world_model.specs.NewChild.{is_child_full};
 ghost use Rattle.world_model.specs.Kept.{IsKept, has_pci_io};
 ghost use Rattle.world_model.specs.Opening.{firmware_soft, opening_soft};
 ghost use Rattle.pci_model.specs.declared.numbers.TheConstants.{MOST_ROOTS as most_roots};
-ghost use Rattle.soft_part.specs.Answers.{AsBefore};
+ghost use Rattle.world_model.specs.Undo.{AreLevelsOf, put_if_there, taken_back, with_thunks as with_all};
+ghost use Rattle.world_model.specs.UndoLaws.{CanTakeBack, IsNoted, is_of_handle};
+ghost use Rattle.soft_part.specs.Answers.{AsBefore, AsBeforeRefusal, done};
 
-use crate::bus_children::{drop_child, first_child, function_at, function_of, pci_io_of};
-use crate::database::{add_handle, opening};
+use crate::bus_children::{
+    BusList, first_child, function_at, function_of, pci_io_of, put_child, replace_list, take_child,
+};
+use crate::database::opening;
 use crate::image_block::{ImageInfo, block_bytes};
-use crate::mapping::{map_free, map_image};
-use crate::opens::{drop_records, sweep_tables};
+use crate::mapping::{add_loaded, map_again, map_free};
+use crate::opens::{sweep_tables, take_records};
 use crate::plain_part::PlainPart;
 use crate::roots::add_roots;
-use crate::stack::{frame, map_list, stack_base, stack_bytes, unmap_level};
+use crate::stack::{frame, levels_with_stack, map_level, stack_bytes, unmap_level};
 use crate::tables::tables;
-use crate::thunks::{drop_from_segment, thunk_address, thunk_with};
+use crate::thunks::{drop_from_segment, entering, thunk_address, thunk_with, with_thunks};
 use ebc_machine::Cpu;
 use fw_types::{
     Attr, Guid, Handle, Known, MOST_BLOCKS, MOST_BYTES, MOST_RECORDS, MOST_THUNKS, OutOfMemory,
     Rows,
 };
 use guest_memory::address_map::{BLOCK_END, COMMAND_PATH, IMAGE_END, IMAGE_STEP};
-use guest_memory::{GuestMem, MemRefusal, Memory, SegKind};
-use handle_db::{Db, DbRefusal};
-use open_records::{RecFault, Records};
+use guest_memory::{GuestMem, MemRefusal, Memory, SegKind, Segment};
+use handle_db::{Db, DbRefusal, Removed};
+use open_records::{Choice, Gone, RecFault, Records};
 use std::alloc::Global;
 use std::marker::Model;
-use world_model::{BusChild, LoadedImage, Thunk, WorldFault};
+use std::mem;
+use world_model::{BusChild, Change, DroppedImage, LoadedImage, StackLevels, Thunk, WorldFault};
 
 /// The size of a loaded image block.
 const BLOCK_SIZE: u64 = 96;
@@ -108,23 +118,6 @@ impl SoftPart {
             database: opening(alloc)?,
             records: Records::new(alloc, MOST_RECORDS),
             plain: PlainPart::new(alloc, functions)?,
-        })
-    }
-
-    /// An equal soft part.
-    ///
-    /// # Errors
-    ///
-    /// `OutOfMemory` if there is no memory.
-    pub fn copy(&self) -> Result<SoftPart, OutOfMemory>
-        ensures { IfOk result (λ copy. copy ≡ self.now) }
-    {
-        Ok(SoftPart {
-            alloc: self.alloc,
-            memory: self.memory.copy()?,
-            database: self.database.copy()?,
-            records: self.records.copy()?,
-            plain: self.plain.copy(self.alloc)?,
         })
     }
 
@@ -203,22 +196,25 @@ impl SoftPart {
         self.plain.images.iter().any(|image| image.block == at)
     }
 
-    /// Removes a block of the kind, but no loaded image block.
+    /// Removes a block of the kind, but no loaded image block, and answers what was mapped there.
     ///
     /// # Errors
     ///
     /// `NotThere` if no such block begins at the address.
-    pub fn free(&mut self, at: u64, kind: SegKind) -> Result<(), WorldFault>
+    pub fn free(&mut self, at: u64, kind: SegKind) -> Result<Segment, WorldFault>
         requires { is_block kind ≡ true }
-        ensures answer { result ≡ free_answer at kind self.old }
+        ensures answer { done result ≡ free_answer at kind self.old }
+        ensures segment { IfOk result (λ segment. beginning_at self.old.memory at ≡ Ok segment) }
         ensures ok { OnOk result (self.new ≡ block_freed at self.old) }
         ensures err { OnErr result (self.new ≡ self.old) }
     {
         if !self.memory.begins(kind, at) || self.is_image_block(at) {
             return Err(WorldFault::NotThere);
         }
-        let _ = self.memory.unmap(at);
-        Ok(())
+        match self.memory.unmap(at) {
+            Ok(segment) => Ok(segment),
+            Err(_) => unreachable!(),
+        }
     }
 
     // ---- ranges of bytes
@@ -244,6 +240,21 @@ impl SoftPart {
         ensures size { length result.now ≡ n }
     {
         self.memory.bytes(at, n)
+    }
+
+    /// The `n` bytes from an address on, and zeros behind them; zeros alone if they can't be read.
+    #[inline]
+    pub fn word(&self, at: u64, n: u8) -> [u8; 8]
+        requires { is_access n ≡ true }
+        ensures { is_readable self.now.memory at n ≡ true → take n result ≡ bytes_of self.now.memory at n }
+    {
+        let mut word = [0; 8];
+        if !self.memory.can_read(at, u64::from(n)) {
+            return word;
+        }
+        let bytes = self.memory.bytes(at, u64::from(n));
+        word[..usize::from(n)].copy_from_slice(bytes);
+        word
     }
 
     /// Puts bytes in place of those from an address on.
@@ -285,21 +296,31 @@ impl SoftPart {
         self.database.install(handle, guid, interface, owner)
     }
 
-    /// Uninstalls an interface that does not last as long as an image, with its records.
+    /// Uninstalls an interface that does not last as long as an image, with its records, and answers the
+    /// change.
     ///
     /// # Errors
     ///
-    /// `BadHandle` if the handle is not live, `NotThere` if it does not have the protocol.
-    pub fn uninstall(&mut self, handle: Handle, guid: Guid) -> Result<(), DbRefusal>
+    /// `BadHandle` if the handle is not live, `NotThere` if it does not have the protocol; the soft part
+    /// is then as before. `OutOfMemory` if there is no memory.
+    pub fn uninstall(&mut self, handle: Handle, guid: Guid) -> Result<Change, DbRefusal>
         requires { is_lasting handle guid self.old ≡ false }
-        ensures answer { result ≡ uninstall_answer handle guid self.old }
+        ensures answer { GivesDb (without_value result) (uninstall_answer handle guid self.old) }
+        ensures noted { IfOk result (λ change. IsNoted change self.old self.new) }
         ensures ok { OnOk result (self.new ≡ interface_removed handle guid self.old) }
-        ensures err { OnErr result (self.new ≡ self.old) }
+        ensures refused { AsBeforeRefusal result self.old self.new }
     {
-        self.database.remove(handle, guid)?;
-        drop_records(&mut self.records, &self.database, handle, guid);
-        drop_child(&mut self.plain.bus_children, handle, guid);
-        Ok(())
+        let removed = self.database.remove(handle, guid)?;
+        let gone = take_records(&mut self.records, &self.database, handle, guid);
+        let child = take_child(&mut self.plain.bus_children, handle, guid);
+        let gone = Rows::of(gone?);
+        Ok(Change::Uninstall {
+            handle,
+            guid,
+            removed,
+            gone,
+            child,
+        })
     }
 
     // ---- open records
@@ -334,51 +355,33 @@ impl SoftPart {
         self.records.add(handle, guid, agent, controller, attr)
     }
 
-    /// Removes an agent's records for a controller on an interface, and answers how many they were.
-    pub fn leave(&mut self, handle: Handle, guid: Guid, agent: u64, controller: u64) -> u32
-        ensures number { result ≡ removed_count self.old self.new }
-        ensures now { self.new ≡ records_left handle guid agent controller self.old }
+    /// How many opens an agent's record for a controller with an attribute counts, on an interface; 0 if
+    /// there is none.
+    pub fn open_count(
+        &self,
+        handle: Handle,
+        guid: Guid,
+        agent: u64,
+        controller: u64,
+        attr: Attr,
+    ) -> u32
+        ensures { result ≡ count_of handle guid agent controller attr self.now.records }
     {
-        let before = self.records.len();
-        self.records.drop_from(handle, guid, Some(agent), Some(controller), Attr::ALL_BITS);
-        before.saturating_sub(self.records.len())
+        self.records.count(handle, guid, agent, controller, attr)
     }
 
-    /// Removes an agent's records on a handle, and answers how many they were.
-    pub fn leave_all(&mut self, handle: Handle, agent: u64) -> u32
-        ensures number { result ≡ removed_count self.old self.new }
-        ensures now { self.new ≡ all_left handle agent self.old }
+    /// Removes records, and answers them, each with its interface and its place.
+    ///
+    /// # Errors
+    ///
+    /// `OutOfMemory` if there is no memory; the soft part is then as before.
+    pub fn take_records(&mut self, choice: &Choice) -> Result<Vec<Gone>, OutOfMemory>
+        ensures gone { IfOk result (λ gone. gone.items ≡ gone_by (picks choice.now) self.old.records.entries) }
+        ensures ok { OnOk result (self.new ≡
+            with_records (without_passing (picks choice.now) self.old.records) self.old) }
+        ensures err { OnErr result (self.new ≡ self.old) }
     {
-        let before = self.records.len();
-        self.records
-            .drop_on(handle, Some(agent), None, Attr::ALL_BITS);
-        before.saturating_sub(self.records.len())
-    }
-
-    /// Removes an agent's records for a child on a handle, and answers how many they were.
-    pub fn leave_child(&mut self, handle: Handle, agent: u64, child: Handle) -> u32
-        ensures number { result ≡ removed_count self.old self.new }
-        ensures now { self.new ≡ child_left handle agent child self.old }
-    {
-        let before = self.records.len();
-        self.records.drop_on(
-            handle,
-            Some(agent),
-            Some(child.get()),
-            Attr::BY_CHILD_CONTROLLER,
-        );
-        before.saturating_sub(self.records.len())
-    }
-
-    /// Removes the records on an interface that keep nobody out, and answers how many they were.
-    pub fn drop_weak(&mut self, handle: Handle, guid: Guid) -> u32
-        ensures number { result ≡ removed_count self.old self.new }
-        ensures now { self.new ≡ weak_dropped handle guid self.old }
-    {
-        let before = self.records.len();
-        self.records
-            .drop_from(handle, guid, None, None, Attr::WEAK_BITS);
-        before.saturating_sub(self.records.len())
+        self.records.take(choice)
     }
 
     // ---- images
@@ -397,7 +400,8 @@ impl SoftPart {
     ///
     /// # Errors
     ///
-    /// `Full` if a limit is met (`is_image_full`), `OutOfMemory` if there is no memory.
+    /// `Full` if a limit is met (`is_image_full`), `OutOfMemory` if there is no memory; the soft part
+    /// is then as before.
     pub fn add_image(
         &mut self,
         bytes: Vec<u8>,
@@ -409,7 +413,7 @@ impl SoftPart {
         ensures answer { Gives result (add_answer (length bytes.items) self.old) }
         ensures ok { OnOk result (self.new ≡
             image_added bytes.items entry subsystem device self.old) }
-        ensures refused { AsBefore result self.old self.new }
+        ensures err { OnErr result (self.new ≡ self.old) }
     {
         let size = bytes.len() as u64;
         if self.is_image_full(size) {
@@ -418,15 +422,18 @@ impl SoftPart {
         let (base, block) = (self.plain.next_image, self.plain.next_block);
         let contents = self.block_contents(size, subsystem, device)?;
         self.plain.images.reserve(1)?;
-        let guid = Guid::known(Known::LoadedImage);
-        let handle = add_handle(&mut self.database, guid, block)?;
-        map_image(&mut self.memory, block, contents, base, bytes)?;
-        self.plain.images.push(LoadedImage {
+        let handle = add_loaded(
+            &mut self.memory,
+            &mut self.database,
+            (block, contents),
+            (base, bytes),
+        )?;
+        self.plain.images.push_reserved(LoadedImage {
             handle,
             base,
             entry: base + u64::from(entry),
             block,
-        })?;
+        });
         self.plain.next_image = next_step(base + size);
         self.plain.next_block = block + block_room(BLOCK_SIZE);
         Ok(handle)
@@ -452,27 +459,44 @@ impl SoftPart {
         Ok(Vec::from_slice(self.alloc, &block_bytes(&info))?)
     }
 
-    /// Removes an image with its loaded image block, its interface with the records, and its
-    /// thunks.
+    /// Removes an image with its loaded image block, its interface with the records, and its thunks, and
+    /// answers the change.
     ///
     /// # Errors
     ///
-    /// `NotThere` if the handle is not that of an image.
-    pub fn drop_image(&mut self, handle: Handle) -> Result<(), WorldFault>
-        ensures answer { result ≡ drop_answer handle self.old }
+    /// `NotThere` if the handle is not that of an image; the soft part is then as before. `OutOfMemory`
+    /// if there is no memory.
+    pub fn drop_image(&mut self, handle: Handle) -> Result<Change, WorldFault>
+        ensures answer { Gives (done result) (drop_answer handle self.old) }
+        ensures noted { IfOk result (λ change. IsNoted change self.old self.new) }
         ensures ok { OnOk result (self.new ≡ image_dropped handle self.old) }
-        ensures err { OnErr result (self.new ≡ self.old) }
+        ensures refused { AsBefore result self.old self.new }
     {
         let image = match image_of(self.plain.images.as_slice(), handle.get()) {
             Some(image) => *image,
             None => return Err(WorldFault::NotThere),
         };
-        unmap_image(&mut self.memory, &mut self.plain.thunks, &image);
+        let place = image_place(self.plain.images.as_slice(), image.handle.get());
+        let parts = take_image(self.alloc, &mut self.memory, &mut self.plain.thunks, &image);
         let guid = Guid::known(Known::LoadedImage);
-        let _ = self.database.remove(image.handle, guid);
-        drop_records(&mut self.records, &self.database, image.handle, guid);
+        let removed = self.database.remove(image.handle, guid);
+        let gone = take_records(&mut self.records, &self.database, image.handle, guid);
         drop_from(&mut self.plain.images, image.handle);
-        Ok(())
+        let (segment, block, thunks) = parts?;
+        let gone = Rows::of(gone?);
+        let Ok(removed) = removed else {
+            return Err(WorldFault::OutOfMemory);
+        };
+        let dropped = DroppedImage {
+            image,
+            place,
+            segment,
+            block,
+            removed,
+            gone,
+            thunks: Rows::of(thunks),
+        };
+        Ok(Change::DropImage { dropped })
     }
 
     /// Removes an image with all that belongs to it, in one sweep. If the handle is not that of an
@@ -657,13 +681,20 @@ impl SoftPart {
         }
     }
 
-    /// The option ROM of a function was processed, and brought these images.
-    pub fn set_bus_list(&mut self, function: u32, images: Vec<Handle>)
-        ensures { self.new ≡ with_bus_list function images.items self.old }
+    /// The option ROM of a function was processed, and brought these images. Answers what its bus
+    /// list was before, `None` if the ROM was not processed.
+    pub fn set_bus_list(&mut self, function: u32, images: Vec<Handle>) -> BusList
+        ensures before { result ≡ rom_images function self.old }
+        ensures now { self.new ≡ with_bus_list function images.items self.old }
     {
-        if let Some(list) = self.plain.bus_lists.get_mut(function as usize) {
-            *list = Some(Rows::of(images));
-        }
+        replace_list(&mut self.plain.bus_lists, function, Some(Rows::of(images)))
+    }
+
+    /// How many children of the bus there are.
+    pub fn child_count(&self) -> usize
+        ensures { result ≡ length self.now.bus_children }
+    {
+        self.plain.bus_children.len()
     }
 
     // ---- stacks
@@ -673,7 +704,7 @@ impl SoftPart {
     ///
     /// # Errors
     ///
-    /// `OutOfMemory` if there is no memory.
+    /// `OutOfMemory` if there is no memory; the soft part is then as before.
     pub fn push_stack(
         &mut self,
         level: u8,
@@ -686,10 +717,10 @@ impl SoftPart {
         requires few { length list.now ≤ most_listed }
         ensures frame { IfOk result (λ cpu. cpu ≡ frame_value level) }
         ensures ok { OnOk result (self.new ≡ stack_pushed level slots.now list.now self.old) }
+        ensures err { OnErr result (self.new ≡ self.old) }
     {
         let stack = stack_bytes(self.alloc, slots)?;
-        map_free(&mut self.memory, stack_base(level), stack, SegKind::Stack)?;
-        map_list(self.alloc, &mut self.memory, level, list)?;
+        map_level(self.alloc, &mut self.memory, level, stack, list)?;
         Ok(frame(level))
     }
 
@@ -700,6 +731,15 @@ impl SoftPart {
         ensures { self.new ≡ stack_popped level self.old }
     {
         unmap_level(&mut self.memory, level);
+    }
+
+    /// Which levels have a stack.
+    pub fn levels(&self) -> StackLevels
+        ensures { AreLevelsOf result self.now }
+    {
+        StackLevels {
+            stands: levels_with_stack(&self.memory),
+        }
     }
 
     // ---- the path of a command
@@ -723,6 +763,251 @@ impl SoftPart {
         ensures { self.new ≡ path_cleared self.old }
     {
         let _ = self.memory.unmap(COMMAND_PATH);
+    }
+}
+
+/// Taking changes back.
+impl SoftPart {
+    /// Takes a change back that was noted as it was made, the last that is not taken back yet.
+    ///
+    /// # Errors
+    ///
+    /// `OutOfMemory` if there is no memory.
+    #[tactic(auto, unfolding(world_model::specs::Undo::taken_back))]
+    pub fn take_back(&mut self, change: Change) -> Result<(), OutOfMemory>
+        requires { CanTakeBack change self.old }
+        ensures { OnOk result (self.new ≡ taken_back change self.old) }
+    {
+        match change {
+            Change::SetTpl { before } => {
+                self.set_tpl(before);
+                Ok(())
+            }
+            Change::Write { at, n, before } => {
+                self.put_if_there(at, &before[..usize::from(n.min(8))]);
+                Ok(())
+            }
+            Change::Put { at, before } => {
+                self.put_if_there(at, before.as_slice());
+                Ok(())
+            }
+            Change::Allot { at } => {
+                self.unmake_block(at);
+                Ok(())
+            }
+            Change::Free { segment } => self.put_back(segment),
+            Change::Install { handle, guid, made } => {
+                self.uninstall_last(handle, guid, made);
+                Ok(())
+            }
+            Change::Uninstall {
+                handle,
+                guid,
+                removed,
+                gone,
+                child,
+            } => self.reinstall(handle, guid, &removed, gone.as_slice(), child),
+            Change::Enter {
+                handle,
+                guid,
+                agent,
+                controller,
+                attr,
+                before,
+            } => {
+                self.set_count_back(handle, guid, agent, controller, attr, before);
+                Ok(())
+            }
+            Change::Leave { gone } => self.put_records_back(gone.as_slice()),
+            Change::DropImage { dropped } => self.remap_image(dropped),
+            Change::AddImage { image } => {
+                self.unmake_image(image);
+                Ok(())
+            }
+            Change::MakeThunk => {
+                self.unmake_thunk();
+                Ok(())
+            }
+            Change::NoteChild { count } => {
+                self.keep_children(count);
+                Ok(())
+            }
+            Change::SetBusList { function, before } => {
+                self.put_list_back(function, before);
+                Ok(())
+            }
+        }
+    }
+
+    /// Puts bytes of before in their place, if it is there and can be written.
+    fn put_if_there(&mut self, at: u64, before: &[u8])
+        ensures { self.new ≡ with_memory (put_if_there at before.now self.old.memory) self.old }
+    {
+        if self.memory.can_write(at, before.len() as u64) {
+            self.put(at, before);
+        }
+    }
+
+    /// Takes back that the last block was made, at an address.
+    fn unmake_block(&mut self, at: u64)
+        requires { IsKept (taken_back (Change.Allot at) self.old) }
+        ensures { self.new ≡ taken_back (Change.Allot at) self.old }
+    {
+        let _ = self.memory.unmap(at);
+        self.plain.next_block = at;
+    }
+
+    /// Maps again what was unmapped.
+    ///
+    /// # Errors
+    ///
+    /// `OutOfMemory` if there is no memory.
+    fn put_back(&mut self, segment: Segment) -> Result<(), OutOfMemory>
+        requires { IsKept (taken_back (Change.Free segment) self.old) }
+        ensures { OnOk result (self.new ≡ taken_back (Change.Free segment) self.old) }
+    {
+        self.memory.put_back(segment)?;
+        Ok(())
+    }
+
+    /// Takes back that an interface was installed, the last on its handle.
+    fn uninstall_last(&mut self, handle: Handle, guid: Guid, made: bool)
+        requires kept { IsKept (taken_back (Change.Install handle guid made) self.old) }
+        requires last { IsInstalledLast handle guid made self.old.database }
+        ensures { self.new ≡ taken_back (Change.Install handle guid made) self.old }
+    {
+        self.database.undo_install(handle, guid, made);
+    }
+
+    /// Takes back that an interface was uninstalled.
+    ///
+    /// # Errors
+    ///
+    /// `OutOfMemory` if there is no memory. The records and the children of the bus are then given up.
+    fn reinstall(
+        &mut self,
+        handle: Handle,
+        guid: Guid,
+        removed: &Removed,
+        gone: &[Gone],
+        child: Option<(usize, BusChild)>,
+    ) -> Result<(), OutOfMemory>
+        requires kept { IsKept (taken_back
+            (Change.Uninstall handle guid removed.now gone.now child) self.old) }
+        requires room { HasRoomFor handle guid removed.now self.old.database }
+        ensures { OnOk result (self.new ≡
+            taken_back (Change.Uninstall handle guid removed.now gone.now child) self.old) }
+    {
+        let none = Records::new(self.alloc, MOST_RECORDS);
+        let mut records = mem::replace(&mut self.records, none);
+        let mut children = mem::replace(&mut self.plain.bus_children, Vec::new(self.alloc));
+        records.put_back(gone)?;
+        put_child(&mut children, child)?;
+        self.database.undo_remove(handle, guid, removed)?;
+        self.records = records;
+        self.plain.bus_children = children;
+        Ok(())
+    }
+
+    /// Takes an open back: the record counts as many as before.
+    fn set_count_back(
+        &mut self,
+        handle: Handle,
+        guid: Guid,
+        agent: u64,
+        controller: u64,
+        attr: Attr,
+        before: u32,
+    )
+        requires { IsKept (taken_back
+            (Change.Enter handle guid agent controller attr before) self.old) }
+        ensures { self.new ≡
+            taken_back (Change.Enter handle guid agent controller attr before) self.old }
+    {
+        self.records
+            .set_count(handle, guid, agent, controller, attr, before);
+    }
+
+    /// Puts records back that went.
+    ///
+    /// # Errors
+    ///
+    /// `OutOfMemory` if there is no memory. All records are then given up.
+    fn put_records_back(&mut self, gone: &[Gone]) -> Result<(), OutOfMemory>
+        requires { IsKept (taken_back (Change.Leave gone.now) self.old) }
+        ensures { OnOk result (self.new ≡ taken_back (Change.Leave gone.now) self.old) }
+    {
+        let none = Records::new(self.alloc, MOST_RECORDS);
+        let mut records = mem::replace(&mut self.records, none);
+        records.put_back(gone)?;
+        self.records = records;
+        Ok(())
+    }
+
+    /// Takes back that an image was dropped.
+    ///
+    /// # Errors
+    ///
+    /// `OutOfMemory` if there is no memory. The records are then given up.
+    fn remap_image(&mut self, dropped: DroppedImage) -> Result<(), OutOfMemory>
+        requires kept { IsKept (taken_back (Change.DropImage dropped) self.old) }
+        requires room { HasRoomFor dropped.image.handle (known_guid LoadedImageProtocol)
+            dropped.removed self.old.database }
+        ensures { OnOk result (self.new ≡ taken_back (Change.DropImage dropped) self.old) }
+    {
+        let images = with_image(self.alloc, self.plain.images.as_slice(), &dropped)?;
+        let thunks = with_thunks_of(self.alloc, self.plain.thunks.as_slice(), &dropped)?;
+        let none = Records::new(self.alloc, MOST_RECORDS);
+        let mut records = mem::replace(&mut self.records, none);
+        put_records_of(&mut records, &dropped)?;
+        remap(&mut self.memory, &mut self.database, dropped)?;
+        self.records = records;
+        self.plain.images = images;
+        self.plain.thunks = thunks;
+        Ok(())
+    }
+
+    /// Takes back that the last image was added.
+    fn unmake_image(&mut self, image: LoadedImage)
+        requires kept { IsKept (taken_back (Change.AddImage image) self.old) }
+        requires last { IsInstalledLast image.handle (known_guid LoadedImageProtocol) true
+            self.old.database }
+        ensures { self.new ≡ taken_back (Change.AddImage image) self.old }
+    {
+        let _ = self.memory.unmap(image.base);
+        let _ = self.memory.unmap(image.block);
+        self.database
+            .undo_install(image.handle, Guid::known(Known::LoadedImage), true);
+        let others = self.plain.images.len().saturating_sub(1);
+        self.plain.images.truncate(others);
+        self.plain.next_image = image.base;
+        self.plain.next_block = image.block;
+    }
+
+    /// Takes back that the last thunk was made.
+    fn unmake_thunk(&mut self)
+        requires { IsKept (taken_back Change.MakeThunk self.old) }
+        ensures { self.new ≡ taken_back Change.MakeThunk self.old }
+    {
+        let others = self.plain.thunks.len().saturating_sub(1);
+        self.plain.thunks.truncate(others);
+        self.plain.next_thunk = self.plain.next_thunk.saturating_sub(1);
+    }
+
+    /// Keeps so many children of the bus, the first ones.
+    fn keep_children(&mut self, count: usize)
+        requires { IsKept (taken_back (Change.NoteChild count) self.old) }
+        ensures { self.new ≡ taken_back (Change.NoteChild count) self.old }
+    {
+        self.plain.bus_children.truncate(count);
+    }
+
+    /// Puts the bus list of before in its place.
+    fn put_list_back(&mut self, function: u32, before: BusList)
+        requires { IsKept (taken_back (Change.SetBusList function before) self.old) }
+        ensures { self.new ≡ taken_back (Change.SetBusList function before) self.old }
+    {
+        let _ = replace_list(&mut self.plain.bus_lists, function, before);
     }
 }
 
@@ -764,6 +1049,143 @@ fn unmap_image(memory: &mut Memory, thunks: &mut Vec<Thunk>, image: &LoadedImage
     let bytes = memory.unmap(image.base);
     drop_from_segment(thunks, &bytes);
     let _ = memory.unmap(image.block);
+}
+
+/// Unmaps the bytes of an image and its loaded image block, removes the thunks that enter it, and answers
+/// all three.
+///
+/// # Errors
+///
+/// `OutOfMemory` if there is no memory for the thunks; all went all the same.
+fn take_image(
+    alloc: Global,
+    memory: &mut Memory,
+    thunks: &mut Vec<Thunk>,
+    image: &LoadedImage,
+) -> Result<(Segment, Segment, Vec<Thunk>), OutOfMemory>
+    ensures memory { memory.new ≡
+        unmapped (unmapped memory.old image.now.base) image.now.block }
+    ensures thunks { thunks.new.items ≡
+        without_thunks (beginning_at memory.old image.now.base) thunks.old.items }
+    ensures bytes { IfOk result (λ gone. beginning_at memory.old image.now.base ≡ Ok gone.0) }
+    ensures block { IfOk result (λ gone.
+        beginning_at (unmapped memory.old image.now.base) image.now.block ≡ Ok gone.1) }
+    ensures entering { IfOk result (λ gone. gone.2.items ≡ filter (enters gone.0) thunks.old.items) }
+{
+    let bytes = memory.unmap(image.base);
+    let gone = match &bytes {
+        Ok(segment) => entering(alloc, thunks.as_slice(), segment),
+        Err(_) => Err(OutOfMemory),
+    };
+    drop_from_segment(thunks, &bytes);
+    let block = memory.unmap(image.block);
+    let (Ok(bytes), Ok(block)) = (bytes, block) else {
+        return Err(OutOfMemory);
+    };
+    Ok((bytes, block, gone?))
+}
+
+/// Maps an image and its loaded image block again, with its interface, or nothing.
+///
+/// # Errors
+///
+/// `OutOfMemory` if there is no memory; all is then as before.
+fn remap(memory: &mut Memory, database: &mut Db, dropped: DroppedImage) -> Result<(), OutOfMemory>
+    requires apart { lie_from 0 (mapped dropped.segment (mapped dropped.block memory.old)) ≡ true }
+    requires room { HasRoomFor dropped.image.handle (known_guid LoadedImageProtocol) dropped.removed
+        database.old }
+    ensures memory { OnOk result (memory.new ≡
+        mapped dropped.segment (mapped dropped.block memory.old)) }
+    ensures database { OnOk result (database.new ≡ remove_undone dropped.image.handle
+        (known_guid LoadedImageProtocol) dropped.removed database.old) }
+    ensures memory_before { OnErr result (memory.new ≡ memory.old) }
+    ensures database_before { OnErr result (database.new ≡ database.old) }
+{
+    let handle = dropped.image.handle;
+    let removed = dropped.removed;
+    remap_parts(
+        memory,
+        database,
+        dropped.segment,
+        dropped.block,
+        handle,
+        removed,
+    )
+}
+
+/// The same, of its bytes, its loaded image block and its interface.
+fn remap_parts(
+    memory: &mut Memory,
+    database: &mut Db,
+    segment: Segment,
+    block: Segment,
+    handle: Handle,
+    removed: Removed,
+) -> Result<(), OutOfMemory>
+    requires apart { lie_from 0 (mapped segment (mapped block memory.old)) ≡ true }
+    requires room { HasRoomFor handle (known_guid LoadedImageProtocol) removed database.old }
+    ensures memory { OnOk result (memory.new ≡ mapped segment (mapped block memory.old)) }
+    ensures database { OnOk result (database.new ≡
+        remove_undone handle (known_guid LoadedImageProtocol) removed database.old) }
+    ensures memory_before { OnErr result (memory.new ≡ memory.old) }
+    ensures database_before { OnErr result (database.new ≡ database.old) }
+{
+    let (base, block_base) = (segment.base, block.base);
+    map_again(memory, block, segment)?;
+    let installed = database.undo_remove(handle, Guid::known(Known::LoadedImage), &removed);
+    if installed.is_err() {
+        let _ = memory.unmap(base);
+        let _ = memory.unmap(block_base);
+    }
+    installed
+}
+
+/// The place of the image of a handle, or how many images there are if there is none.
+fn image_place(images: &[LoadedImage], handle: u64) -> usize
+    ensures { result ≡ position_or_len (is_of_handle handle) images.now }
+{
+    image_position(images, handle).unwrap_or(images.len())
+}
+
+/// The place of the image of a handle.
+fn image_position(images: &[LoadedImage], handle: u64) -> Option<usize>
+    ensures { result ≡ position (is_of_handle handle) images.now }
+{
+    images.iter().position(|image| image.handle.get() == handle)
+}
+
+/// The images, with one that was dropped at its place.
+fn with_image(
+    alloc: Global,
+    images: &[LoadedImage],
+    dropped: &DroppedImage,
+) -> Result<Vec<LoadedImage>, OutOfMemory>
+    ensures { IfOk result (λ all. all.items ≡
+        insert images.now dropped.now.place dropped.now.image) }
+{
+    let mut all = Vec::from_slice(alloc, images)?;
+    let place = dropped.place.min(all.len());
+    all.insert(place, dropped.image)?;
+    Ok(all)
+}
+
+/// The thunks, with those of an image that was dropped.
+fn with_thunks_of(
+    alloc: Global,
+    thunks: &[Thunk],
+    dropped: &DroppedImage,
+) -> Result<Vec<Thunk>, OutOfMemory>
+    ensures { IfOk result (λ all. all.items ≡ with_all dropped.now.thunks thunks.now) }
+{
+    with_thunks(alloc, thunks, dropped.thunks.as_slice())
+}
+
+/// Puts the records back that went with an image that was dropped.
+fn put_records_of(records: &mut Records, dropped: &DroppedImage) -> Result<(), OutOfMemory>
+    requires { RecordsAreSound (put_back dropped.now.gone records.old) }
+    ensures { OnOk result (records.new ≡ put_back dropped.now.gone records.old) }
+{
+    records.put_back(dropped.gone.as_slice())
 }
 
 /// Removes the image of a handle from those that are loaded.

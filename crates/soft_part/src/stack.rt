@@ -1,8 +1,9 @@
 //! What a driver call finds on its stack, and the list of children that a Stop is given.
-ghost use Rattle.std.specs.Prelude.{◌≡◌, ◌++◌, IfOk, OnErr, OnOk, Ok, flat_map, replicate};
+ghost use Rattle.fw_types.specs.declared.limits.TheConstants.{MOST_LEVELS as most_levels};
+ghost use Rattle.std.specs.Prelude.{◌≡◌, ◌≤◌, ◌++◌, ℕ, false, slice_index_or, IfOk, OnErr, OnOk, Ok, flat_map, replicate};
 ghost use Rattle.byteorder.specs.Endian.{little_bytes};
-ghost use Rattle.guest_memory.specs.GuestMemory.{map_answer, unmapped};
-ghost use Rattle.world_model.specs.Stacks.{frame as frame_value, list_base as list_base_of, list_mapped, list_segment, stack_base as stack_base_of, stack_bytes as stack_value};
+ghost use Rattle.guest_memory.specs.GuestMemory.{map_answer, mapped, unmapped};
+ghost use Rattle.world_model.specs.Stacks.{frame as frame_value, has_stack, list_base as list_base_of, list_mapped, list_segment, stack_base as stack_base_of, stack_bytes as stack_value};
 
 use crate::mapping::map_free;
 use ebc_machine::Cpu;
@@ -70,7 +71,7 @@ pub fn stack_bytes(alloc: Global, slots: &[u64; 16]) -> Result<Vec<u8>, OutOfMem
 /// # Errors
 ///
 /// `OutOfMemory` if there is no memory; the memory of drivers is then as before.
-pub fn map_list(
+fn map_list(
     alloc: Global,
     memory: &mut Memory,
     level: u8,
@@ -86,6 +87,50 @@ pub fn map_list(
     let mut bytes = Vec::new(alloc);
     add_numbers(&mut bytes, handles)?;
     map_free(memory, list_base(level), bytes, SegKind::Table)
+}
+
+/// Maps a stack of a level and its list of children, if there are any. Nothing refuses them.
+///
+/// # Errors
+///
+/// `OutOfMemory` if there is no memory; the memory of drivers is then as before.
+pub fn map_level(
+    alloc: Global,
+    memory: &mut Memory,
+    level: u8,
+    stack: Vec<u8>,
+    handles: &[u64],
+) -> Result<(), OutOfMemory>
+    requires stack { map_answer memory.old
+        (record { base = stack_base_of level; bytes = stack.items; kind = SegKind.Stack }) ≡ Ok tt }
+    requires list { map_answer
+        (mapped (record { base = stack_base_of level; bytes = stack.items; kind = SegKind.Stack }) memory.old)
+        (list_segment level handles.now) ≡ Ok tt }
+    ensures ok { OnOk result (memory.new ≡ list_mapped level handles.now
+        (mapped (record { base = stack_base_of level; bytes = stack.items; kind = SegKind.Stack }) memory.old)) }
+    ensures err { OnErr result (memory.new ≡ memory.old) }
+{
+    let base = stack_base(level);
+    map_free(memory, base, stack, SegKind::Stack)?;
+    match map_list(alloc, memory, level, handles) {
+        Ok(()) => Ok(()),
+        Err(OutOfMemory) => {
+            let _ = memory.unmap(base);
+            Err(OutOfMemory)
+        }
+    }
+}
+
+/// Whether each level has a stack, by its number from 0 on.
+pub fn levels_with_stack(memory: &Memory) -> [bool; 33]
+    ensures { (level : ℕ) → level ≤ most_levels →
+        slice_index_or result level false ≡ has_stack level memory.now }
+{
+    let mut stands = [false; 33];
+    for level in 0..33 {
+        stands[usize::from(level)] = memory.begins(SegKind::Stack, stack_base(level));
+    }
+    stands
 }
 
 /// Unmaps the stack of a level and its list of children, if they are there.

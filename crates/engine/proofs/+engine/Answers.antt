@@ -25,8 +25,8 @@ use Rattle.engine.proofs.+engine.Goals as goal
 
 -- ---- driver calls
 
-pub driver_call::call_driver-mark-requires : goal.driver_call::call_driver-mark-requires
-driver_call::call_driver-mark-requires t c = (c.marks_suffice.ensures.call c.args.room c.args.world.now.now.soft c.args.world.now.marks c.requires.marks).1
+pub driver_call::call_driver-mark-mark-requires : goal.driver_call::call_driver-mark-mark-requires
+driver_call::call_driver-mark-mark-requires t c = (c.marks_suffice.ensures.call c.args.room c.args.world.now.now.soft c.args.world.now.marks c.requires.marks).1
 
 -- ---- runs
 
@@ -152,34 +152,34 @@ uninstallation::uninstall_each-loop-i-preserved t c = record {
 pub uninstallation::uninstall_each-returns-clause-now : goal.uninstallation::uninstall_each-returns-clause-now
 uninstallation::uninstall_each-returns-clause-now t c = sym c.loop-i.invariant.rest ∙ each_all _ _ _ _ _ _ _ c.loop-i-test.false
 
-pub uninstallation::uninstall_many-mark-requires : goal.uninstallation::uninstall_many-mark-requires
-uninstallation::uninstall_many-mark-requires t c = (c.marks_suffice.ensures.spare c.args.room c.args.world.now.now.soft c.args.world.now.marks c.requires.marks).1
+pub uninstallation::uninstall_many-mark-mark-requires : goal.uninstallation::uninstall_many-mark-mark-requires
+uninstallation::uninstall_many-mark-mark-requires t c = (c.marks_suffice.ensures.spare c.args.room c.args.world.now.now.soft c.args.world.now.marks c.requires.marks).1
 
 -- ---- loads
 
-pub image_load::lay_and_enter-mark-requires : goal.image_load::lay_and_enter-mark-requires
-image_load::lay_and_enter-mark-requires t c = (c.marks_suffice.ensures.spare (c.args.room + 1) c.args.world.now.now.soft c.args.world.now.marks c.requires.marks).1
+pub image_load::lay_and_enter-mark-mark-requires : goal.image_load::lay_and_enter-mark-mark-requires
+image_load::lay_and_enter-mark-mark-requires t c = (c.marks_suffice.ensures.spare (c.args.room + 1) c.args.world.now.now.soft c.args.world.now.marks c.requires.marks).1
 
 pub image_load::lay_and_enter-call_driver-requires : goal.image_load::lay_and_enter-call_driver-requires
 image_load::lay_and_enter-call_driver-requires t c =
-    let marking : c.lay_image.new.w.marks ≡ c.args.world.now.now.soft ∷ c.args.world.now.marks = c.in_ok-image.ensures.marks ∙ ap (λ (w : WorldView). w.marks) c.in_ok-mark.ensures.marked in
-    let free = free_after_laying (c.args.room + 1) c.args.world.now c.mark.new.self c.lay_image.new.w c.levels_are_free.ensures.marking c.requires.free c.in_ok-mark.ensures.marked c.in_ok-image.ensures.marks
-    (stacks_after_laying c.args.world.now c.mark.new.self c.lay_image.new.w c.args.view.now c.args.device c.stacks_stand.ensures.adding c.in_ok-mark.ensures.marked c.in_ok-image.ensures.now) in
+    let marking : c.lay_image.new.w.marks ≡ c.args.world.now.now.soft ∷ c.args.world.now.marks = c.in_ok-image.ensures.marks ∙ ap (λ (w : WorldView). w.marks) c.mark-mark.ensures.marked in
+    let free = free_after_laying (c.args.room + 1) c.args.world.now c.mark-mark.new.self c.lay_image.new.w c.levels_are_free.ensures.marking c.requires.free c.mark-mark.ensures.marked c.in_ok-image.ensures.marks
+    (stacks_after_laying c.args.world.now c.mark-mark.new.self c.lay_image.new.w c.args.view.now c.args.device c.stacks_stand.ensures.adding c.mark-mark.ensures.marked c.in_ok-image.ensures.now) in
     let marks : has_marks 0 (c.args.room + 1) c.lay_image.new.w.marks ≡ true = rw marking (c.marks_suffice.ensures.spare (c.args.room + 1) c.args.world.now.now.soft c.args.world.now.marks c.requires.marks).0 in
     (search rules, (c.requires.room, (free, (marks, omega arith))))
 
 pub image_load::lay_and_enter-settle_load-requires-clause-stacks : goal.image_load::lay_and_enter-settle_load-requires-clause-stacks
 image_load::lay_and_enter-settle_load-requires-clause-stacks t c =
-    stacks_of_mark c.args.world.now c.mark.new.self c.lay_image.new.w c.call_driver.new.world c.in_ok-mark.ensures.marked c.in_ok-image.ensures.marks c.in_ok-outcome.ensures.marks
+    stacks_of_mark c.args.world.now c.mark-mark.new.self c.lay_image.new.w c.call_driver.new.world c.mark-mark.ensures.marked c.in_ok-image.ensures.marks c.in_ok-outcome.ensures.marks
     (c.in_ok-outcome.ensures.stacks
-    ∙ stacks_after_laying c.args.world.now c.mark.new.self c.lay_image.new.w c.args.view.now c.args.device c.stacks_stand.ensures.adding c.in_ok-mark.ensures.marked c.in_ok-image.ensures.now)
+    ∙ stacks_after_laying c.args.world.now c.mark-mark.new.self c.lay_image.new.w c.args.view.now c.args.device c.stacks_stand.ensures.adding c.mark-mark.ensures.marked c.in_ok-image.ensures.now)
 
 pub image_load::lay_and_enter-returns-clause-stacks : goal.image_load::lay_and_enter-returns-clause-stacks
 image_load::lay_and_enter-returns-clause-stacks t c =
     on_ok c.settle_load.result
     (λ (settled : stacks c.settle_load.new.world.now.soft ≡ stacks c.call_driver.new.world.now.soft).
     settled ∙ c.in_ok-outcome.ensures.stacks
-    ∙ stacks_after_laying c.args.world.now c.mark.new.self c.lay_image.new.w c.args.view.now c.args.device c.stacks_stand.ensures.adding c.in_ok-mark.ensures.marked c.in_ok-image.ensures.now)
+    ∙ stacks_after_laying c.args.world.now c.mark-mark.new.self c.lay_image.new.w c.args.view.now c.args.device c.stacks_stand.ensures.adding c.mark-mark.ensures.marked c.in_ok-image.ensures.now)
     c.settle_load.ensures.stacks
 
 -- ---- the bus driver

@@ -24,5 +24,5 @@ invariant_of-self c = rw (ended c) (numbered-ended 1 c.args.serial c.args.outcom
 
 pub returns-clause-now : goal.returns-clause-now
 returns-clause-now c =
-    ap (λ (events : List Event). record { soft = c.self.inside.soft; hard = record { units = c.self.inside.units; events = events; board = c.self.inside.board; roms = roms_in c.self.inside.roms.items } }) (ended c)
+    ap (λ (events : List Event). record { soft = c.self.inside.soft.now; hard = record { units = c.self.inside.units; events = events; board = c.self.inside.board; roms = roms_in c.self.inside.roms.items } }) (ended c)
     ∙ ap (λ (w : WorldView). on_hard (event_ended c.args.serial c.args.outcome) w.now) c.self.view_is

@@ -1,8 +1,6 @@
-use Rattle.std.proofs.Common.{◌≡◌, ℕ, List, Option, Some, None, ap, sym, refl, subst, ◌∙◌}
-use Rattle.world_model.specs.declared.image.LoadedImage.{LoadedImage}
+use Rattle.std.proofs.Common.{Some, None, refl}
 use Rattle.world_model.specs.World.{Soft}
-use Rattle.world_model.specs.Images.{image_of}
-use Rattle.world_model.specs.ImageSweep.{image_swept, swept_of}
+use Rattle.world_model.specs.ImageSweep.{image_swept}
 use Rattle.world_model.proofs.KeepingSweeps.{sweeping_one}
 use Rattle.soft_part.specs.Soft.{soft_of}
 use Rattle.soft_part.proofs.Keeps.{image_found}

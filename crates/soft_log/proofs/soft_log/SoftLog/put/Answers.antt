@@ -1,0 +1,41 @@
+use Rattle.std.proofs.Common.{◌≡◌, ℕ, ◌+◌, true, false, List, length, replicate, take, ap, sym, subst, ◌∙◌}
+use Rattle.std.specs.Prelude.{Ok, not, is_ok, is_some, unwrap_or, Result}
+use Rattle.handle_db.specs.Installing.{install_refusals}
+use Rattle.std.proofs.lemmas.List.{length-replicate}
+use Rattle.guest_memory.specs.declared.segment.Segment.{Segment}
+use Rattle.guest_memory.specs.GuestMemory.{bytes_of, is_readable, is_writable_range, put_bytes, write_answer, written}
+use Rattle.handle_db.specs.declared.handle_entry.Interface.{Interface}
+use Rattle.world_model.specs.declared.change.Change.{Change}
+use Rattle.world_model.specs.declared.change.Change.TheVariants.{Put}
+use Rattle.world_model.specs.World.{Soft, with_memory}
+use Rattle.world_model.specs.Blocks.{is_block_full}
+use Rattle.world_model.specs.Interfaces.{install_answer, interface}
+use Rattle.world_model.specs.Images.{is_image_full, next_loaded}
+use Rattle.world_model.specs.UndoLaws.{IsNoted}
+use Rattle.world_model.proofs.UndoNoted.{put_is_noted}
+use Rattle.soft_log.specs.Keeping.{MarkedSoft}
+use Rattle.soft_log.proofs.Noting.{are_noted, flipped, kept_noted, made_at, readable_written, room_made, unless_value}
+use Rattle.soft_log.proofs.soft_log.SoftLog.put.Goals as goal
+
+pub invariant_of-self-2 : goal.invariant_of-self-2
+invariant_of-self-2 c =
+    let inside = c.self.inside in
+    let change : Change = Put c.args.at c.in_ok-before.before in
+    let bytes : List ℕ = c.args.bytes.now in
+    let can : is_writable_range inside.soft.memory c.args.at (length bytes) ≡ true = ap (λ (v : MarkedSoft). is_writable_range v.now.memory c.args.at (length bytes)) c.self.view_is ∙ c.requires in
+    let same : bytes_of inside.soft.memory c.args.at (length bytes) ≡ c.in_ok-before.before = sym c.in_ok-before.ensures in
+    let base = put_is_noted inside.soft c.args.at bytes c.is_kept.ensures can in
+    let is : IsNoted change inside.soft c.put.new.self = rw c.put.ensures (subst (λ (before : List ℕ). IsNoted (Put c.args.at before) inside.soft (with_memory (put_bytes inside.soft.memory c.args.at bytes) inside.soft)) same base) in
+    rw (c.note.ensures, c.reserve.ensures.marks) (are_noted inside.log.marks change inside.soft c.put.new.self c.is_kept.ensures c.is_kept-2.ensures is c.self.invariant)
+
+pub returns-clause-marks : goal.returns-clause-marks
+returns-clause-marks c =
+    let inside = c.self.inside in
+    let change : Change = Put c.args.at c.in_ok-before.before in
+    let bytes : List ℕ = c.args.bytes.now in
+    let can : is_writable_range inside.soft.memory c.args.at (length bytes) ≡ true = ap (λ (v : MarkedSoft). is_writable_range v.now.memory c.args.at (length bytes)) c.self.view_is ∙ c.requires in
+    let same : bytes_of inside.soft.memory c.args.at (length bytes) ≡ c.in_ok-before.before = sym c.in_ok-before.ensures in
+    let base = put_is_noted inside.soft c.args.at bytes c.is_kept.ensures can in
+    let is : IsNoted change inside.soft c.put.new.self = rw c.put.ensures (subst (λ (before : List ℕ). IsNoted (Put c.args.at before) inside.soft (with_memory (put_bytes inside.soft.memory c.args.at bytes) inside.soft)) same base) in
+    rw (c.note.ensures, c.reserve.ensures.marks) (kept_noted inside.log.marks change inside.soft c.put.new.self c.is_kept.ensures c.is_kept-2.ensures is)
+    ∙ ap (λ (v : MarkedSoft). v.marks) c.self.view_is

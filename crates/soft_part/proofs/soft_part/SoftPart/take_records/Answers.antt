@@ -1,0 +1,16 @@
+use Rattle.std.proofs.Common.{◌≡◌, ap, sym, subst, ◌∙◌, refl, not, List, filter}
+use Rattle.std.specs.Prelude.{IfOk}
+use Rattle.open_records.specs.PuttingBack.{Gone, gone_by, picks}
+use Rattle.world_model.specs.World.{Soft}
+use Rattle.soft_part.specs.Soft.{soft_of}
+use Rattle.soft_part.proofs.Keeps.{kept_taken}
+use Rattle.soft_part.proofs.soft_part.SoftPart.take_records.Goals as goal
+
+pub invariant_of-self : goal.invariant_of-self
+invariant_of-self c =
+    let inside = c.self.inside in
+    let soft : Soft = soft_of inside.memory inside.database inside.records inside.plain in
+    kept_taken soft c.args.choice.now c.take.result c.take.new.self c.self.invariant c.take.ensures.ok c.take.ensures.err
+
+pub returns-clause-gone : goal.returns-clause-gone
+returns-clause-gone c = rw (← c.self.view_is) c.take.ensures.gone
