@@ -53,18 +53,24 @@ fn add_cut_driver(world: &mut World) -> Result<Handle, Fail> {
 /// drivers 4 and 6 are of image 9, 5 is of 8, and 2, the bus driver, is of 1.
 fn with_drivers(rt: &impl AllocGlobal) -> Result<World, Fail> {
     let mut world = World::new(rt.alloc(), Board::empty(rt.alloc()), Vec::new(rt.alloc()))?;
+    add_drivers(&mut world)?;
+    Ok(world)
+}
+
+/// Adds the disk, its partition, the drivers and the image to a new world.
+fn add_drivers(world: &mut World) -> Result<(), Fail> {
     let (disk, path) = (Guid::known(Known::PciIo), Guid::known(Known::DevicePath));
     let owner = Handle::firmware();
     let controller = world.install(None, disk, 0, owner)?;
     let _ = world.install(Some(controller), path, 0, owner)?;
     for (version, image) in [(0x10, 9), (0x10, 8), (u32::MAX, 9)] {
-        let _ = add_driver(&mut world, version, image)?;
+        let _ = add_driver(world, version, image)?;
     }
     let _ = world.install(None, disk, 0, owner)?;
-    let _ = add_cut_driver(&mut world)?;
+    let _ = add_cut_driver(world)?;
     let image = Guid::known(Known::LoadedImage);
     let _ = world.install(None, image, 0, owner)?;
-    Ok(world)
+    Ok(())
 }
 
 /// A context and a platform list, and the handles of the drivers in their order.
@@ -90,19 +96,28 @@ const ROWS: [Row; 12] = [
     (&[2, 5, 4, 6], &[6, 5], &[2, 5, 4, 6]),
 ];
 
+/// Whether bindings are those of handles, in order.
+fn are_of(blocks: &[BindingBlock], handles: &[u64]) -> bool {
+    for (block, handle) in blocks.iter().zip(handles) {
+        if block.handle.get() != *handle {
+            return false;
+        }
+    }
+    blocks.len() == handles.len()
+}
+
 #[test]
 fn drivers_in_order(rt: HostRuntime) -> Result<(), Fail> {
     let world = with_drivers(&rt)?;
-    let controller = numbered(&rt, 3);
+    drivers_in_order_in(&rt, &world)
+}
+
+fn drivers_in_order_in(rt: &(impl AllocGlobal + Abort), world: &World) -> Result<(), Fail> {
+    let controller = numbered(rt, 3);
     for (context, platform, wanted) in ROWS {
-        let blocks = order(&world, controller, context, platform)?;
-        let handles: Vec<u64> = blocks
-            .iter()
-            .map(|block| block.handle.get())
-            .collect(rt.alloc())?;
-        assert_eq!(rt;
-            handles.as_slice(),
-            wanted,
+        let blocks = order(world, controller, context, platform)?;
+        assert!(rt;
+            are_of(blocks.as_slice(), wanted),
             "at {context:?} and {platform:?}"
         );
     }
@@ -132,10 +147,16 @@ fn with_child(rt: &(impl AllocGlobal + Abort)) -> Result<World, Fail> {
     let child = world.install(None, pci_io, 0, Handle::firmware())?;
     assert!(rt; world.child_function(child.get()).is_none());
     world.note_child(child, 0)?;
-    for (version, image) in [(0x10, 8), (0x10, 8), (0x20, 9)] {
-        let _ = add_driver(&mut world, version, image)?;
-    }
+    add_three_drivers(&mut world)?;
     Ok(world)
+}
+
+/// Adds the drivers.
+fn add_three_drivers(world: &mut World) -> Result<(), Fail> {
+    for (version, image) in [(0x10, 8), (0x10, 8), (0x20, 9)] {
+        let _ = add_driver(world, version, image)?;
+    }
+    Ok(())
 }
 
 /// Handles by their numbers, which are not 0.
@@ -172,19 +193,18 @@ const BUS_ROWS: [BusRow; 7] = [
 #[test]
 fn drivers_of_a_child(rt: HostRuntime) -> Result<(), Fail> {
     let mut world = with_child(&rt)?;
-    let (root, child) = (numbered(&rt, 3), numbered(&rt, 4));
+    drivers_of_a_child_in(&rt, &mut world)
+}
+
+fn drivers_of_a_child_in(rt: &(impl AllocGlobal + Abort), world: &mut World) -> Result<(), Fail> {
+    let (root, child) = (numbered(rt, 3), numbered(rt, 4));
     for (context, platform, bus, wanted) in BUS_ROWS {
-        world.set_bus_list(0, all_numbered(&rt, bus)?)?;
-        let handles: Vec<u64> = order(&world, child, context, platform)?
-            .iter()
-            .map(|block| block.handle.get())
-            .collect(rt.alloc())?;
-        assert_eq!(rt; handles.as_slice(), wanted, "at {bus:?}");
+        world.set_bus_list(0, all_numbered(rt, bus)?)?;
+        let blocks = order(world, child, context, platform)?;
+        assert!(rt; are_of(blocks.as_slice(), wanted), "at {bus:?}");
     }
-    let first = order(&world, root, &[], &[])?
-        .first()
-        .map(|block| block.handle.get());
-    assert_eq!(rt; first, Some(7));
+    let blocks = order(world, root, &[], &[])?;
+    assert!(rt; are_of(blocks.as_slice(), &[7, 5, 6, 2]));
     Ok(())
 }
 
@@ -249,12 +269,16 @@ const STOP_ROWS: [StopRow; 10] = [
 #[test]
 fn drivers_to_stop(rt: HostRuntime) -> Result<(), Fail> {
     let mut world = with_drivers(&rt)?;
-    open(&rt, &mut world, Known::DevicePath, (4, 3, 0x10))?;
-    open(&rt, &mut world, Known::PciIo, (5, 3, 0x10))?;
-    open(&rt, &mut world, Known::PciIo, (4, 7, 0x08))?;
-    open(&rt, &mut world, Known::PciIo, (6, 9, 0x08))?;
+    drivers_to_stop_in(&rt, &mut world)
+}
+
+fn drivers_to_stop_in(rt: &(impl AllocGlobal + Abort), world: &mut World) -> Result<(), Fail> {
+    open(rt, world, Known::DevicePath, (4, 3, 0x10))?;
+    open(rt, world, Known::PciIo, (5, 3, 0x10))?;
+    open(rt, world, Known::PciIo, (4, 7, 0x08))?;
+    open(rt, world, Known::PciIo, (6, 9, 0x08))?;
     for (controller, driver, child, wanted) in STOP_ROWS {
-        let agents = stop_list(&world, numbered(&rt, controller), driver, child)?;
+        let agents = stop_list(world, numbered(rt, controller), driver, child)?;
         let found = agents.as_ref().map(|agents| agents.as_slice());
         assert!(rt; found == wanted, "at {controller}, {driver} and {child}");
     }

@@ -5,6 +5,7 @@ use guest_memory::GuestMem;
 use pci_model::Board;
 use rom_builder::{DriverParts, pe_of};
 use std::alloc::Global;
+use std::process::Abort;
 use std::test::Fail;
 
 /// `MOVIqw R7, 0` and `RET`. The image that the image writer makes of it has 1,024 bytes, and its
@@ -92,11 +93,18 @@ fn a_refused_file_changes_nothing(rt: HostRuntime) -> Result<(), Fail> {
 #[test]
 fn images_are_placed_one_after_the_other(rt: HostRuntime) -> Result<(), Fail> {
     let mut world = World::new(rt.alloc(), Board::empty(rt.alloc()), Vec::new(rt.alloc()))?;
+    images_are_placed_one_after_the_other_in(&rt, &mut world)
+}
+
+fn images_are_placed_one_after_the_other_in(
+    rt: &(impl AllocGlobal + Abort),
+    world: &mut World,
+) -> Result<(), Fail> {
     world.begin_command(100);
     let file = driver(rt.alloc(), BOOT_SERVICE_DRIVER)?;
-    assert_eq!(rt; number(place(&mut world, file.as_slice(), 0)), Ok(3));
+    assert_eq!(rt; number(place(world, file.as_slice(), 0)), Ok(3));
     let file = driver(rt.alloc(), RUNTIME_DRIVER)?;
-    assert_eq!(rt; number(place(&mut world, file.as_slice(), 7)), Ok(4));
+    assert_eq!(rt; number(place(world, file.as_slice(), 7)), Ok(4));
     assert_eq!(rt; world.left(), 68);
     assert_eq!(rt; world.entry_of(3), Some(0x200_0200));
     assert_eq!(rt; world.entry_of(4), Some(0x201_0200));

@@ -13,6 +13,7 @@ use guest_memory::GuestMem;
 use service_model::laws::reentries_change_nothing;
 use service_model::{Change, Reentry, Served, Stop};
 use service_rows::connecting::{connect_controller, disconnect_controller};
+use std::process::Abort;
 use std::test::Fail;
 
 /// A list of 64 handles, of which the last 63 are a list that ends.
@@ -119,9 +120,13 @@ fn go_on(change: Result<Change, Stop>, world: &mut World) -> Result<Option<Serve
 #[test]
 fn goes_on(rt: HostRuntime) -> Result<(), Fail> {
     let mut world = prepared(&rt)?;
-    let connect = connect_row(TWO, END, 1, &world);
+    goes_on_in(&rt, &mut world)
+}
+
+fn goes_on_in(rt: &(impl AllocGlobal + Abort), world: &mut World) -> Result<(), Fail> {
+    let connect = connect_row(TWO, END, 1, world);
     assert_eq!(rt;
-        go_on(connect, &mut world)?,
+        go_on(connect, world)?,
         Some(Served::Again(Reentry::Connect {
             controller: 4,
             context: Rows::of(vec![in rt.alloc(); 3, 5]?),
@@ -130,9 +135,9 @@ fn goes_on(rt: HostRuntime) -> Result<(), Fail> {
             recursive: true,
         }))
     );
-    let disconnect = disconnect_controller(4, 3, 99, &world);
+    let disconnect = disconnect_controller(4, 3, 99, world);
     assert_eq!(rt;
-        go_on(disconnect, &mut world)?,
+        go_on(disconnect, world)?,
         Some(Served::Again(Reentry::Disconnect {
             controller: 4,
             driver: 3,

@@ -8,6 +8,7 @@ use crate::tests::{Answer, PLACE, call, called_at};
 use fw_world::World;
 use guest_memory::{GuestMem, SegKind};
 use service_thunks::Service;
+use std::process::Abort;
 use std::test::Fail;
 
 // ---- 64 interfaces of a handle
@@ -49,9 +50,13 @@ const LISTS: [([u64; 8], Answer); 5] = [
 #[test]
 fn pairs_past_the_limit(rt: HostRuntime) -> Result<(), Fail> {
     let mut world = prepared(&rt)?;
-    install_from(&mut world, 100, 162)?;
+    pairs_past_the_limit_in(&rt, &mut world)
+}
+
+fn pairs_past_the_limit_in(rt: &(impl AllocGlobal + Abort), world: &mut World) -> Result<(), Fail> {
+    install_from(world, 100, 162)?;
     for (list, served) in LISTS {
-        assert_eq!(rt; install_list(&mut world, &list)?, served, "at {list:?}");
+        assert_eq!(rt; install_list(world, &list)?, served, "at {list:?}");
     }
     assert_eq!(rt; world.db().interface_count(fourth()), 63);
     Ok(())
@@ -82,30 +87,22 @@ fn put_pairs(world: &mut World, last: u64) -> Result<(), Fail> {
 #[test]
 fn most_pairs(rt: HostRuntime) -> Result<(), Fail> {
     let mut world = prepared(&rt)?;
-    put_pairs(&mut world, BAD)?;
+    most_pairs_in(&rt, &mut world)
+}
+
+fn most_pairs_in(rt: &(impl AllocGlobal + Abort), world: &mut World) -> Result<(), Fail> {
+    put_pairs(world, BAD)?;
     world.write(FIRST, 8, 0)?;
-    assert_eq!(rt;
-        called_at(&mut world, Service::InstallMultiple, LIST)?,
-        INVALID
-    );
+    assert_eq!(rt; called_at(world, Service::InstallMultiple, LIST)?, INVALID);
     // a handle's place that can't be written, and a GUID of the first 32 that can't be read, answer before
     world.write(LIST, 8, TABLE_ZERO)?;
-    assert_eq!(rt;
-        called_at(&mut world, Service::InstallMultiple, LIST)?,
-        TRAPPED
-    );
+    assert_eq!(rt; called_at(world, Service::InstallMultiple, LIST)?, TRAPPED);
     world.write(LIST, 8, FIRST)?;
     world.write(LIST + 504, 8, BAD)?;
-    assert_eq!(rt;
-        called_at(&mut world, Service::InstallMultiple, LIST)?,
-        TRAPPED
-    );
-    put_pairs(&mut world, 0)?;
-    assert_eq!(rt;
-        called_at(&mut world, Service::InstallMultiple, LIST)?,
-        DONE
-    );
-    are_words(&rt, &world, FIRST, &[5]);
+    assert_eq!(rt; called_at(world, Service::InstallMultiple, LIST)?, TRAPPED);
+    put_pairs(world, 0)?;
+    assert_eq!(rt; called_at(world, Service::InstallMultiple, LIST)?, DONE);
+    are_words(rt, world, FIRST, &[5]);
     assert_eq!(rt; world.db().interface_count(fifth()), 32);
     Ok(())
 }
@@ -114,17 +111,18 @@ fn most_pairs(rt: HostRuntime) -> Result<(), Fail> {
 #[test]
 fn most_pairs_past_the_limit(rt: HostRuntime) -> Result<(), Fail> {
     let mut world = prepared(&rt)?;
-    install_from(&mut world, 100, 132)?;
-    put_pairs(&mut world, BAD)?;
-    assert_eq!(rt;
-        called_at(&mut world, Service::InstallMultiple, LIST)?,
-        INVALID
-    );
-    put_pairs(&mut world, 0)?;
-    assert_eq!(rt;
-        called_at(&mut world, Service::InstallMultiple, LIST)?,
-        FULL
-    );
+    most_pairs_past_the_limit_in(&rt, &mut world)
+}
+
+fn most_pairs_past_the_limit_in(
+    rt: &(impl AllocGlobal + Abort),
+    world: &mut World,
+) -> Result<(), Fail> {
+    install_from(world, 100, 132)?;
+    put_pairs(world, BAD)?;
+    assert_eq!(rt; called_at(world, Service::InstallMultiple, LIST)?, INVALID);
+    put_pairs(world, 0)?;
+    assert_eq!(rt; called_at(world, Service::InstallMultiple, LIST)?, FULL);
     assert_eq!(rt; world.db().interface_count(fourth()), 33);
     Ok(())
 }
@@ -154,27 +152,23 @@ const INFORMATIONS: [Call; 3] = [
 #[test]
 fn full_pool(rt: HostRuntime) -> Result<(), Fail> {
     let mut world = prepared(&rt)?;
-    let _ = call(&mut world, Service::HandleProtocol, &[4, NAME, SECOND])?;
+    full_pool_in(&rt, &mut world)
+}
+
+fn full_pool_in(rt: &(impl AllocGlobal + Abort), world: &mut World) -> Result<(), Fail> {
+    let _ = call(world, Service::HandleProtocol, &[4, NAME, SECOND])?;
     // beside the 96 bytes of the loaded image block
     let all = [0, 67_108_768, SECOND];
-    assert_eq!(rt; call(&mut world, Service::AllocatePool, &all)?, DONE);
+    assert_eq!(rt; call(world, Service::AllocatePool, &all)?, DONE);
     world.write(SECOND, 8, 7)?;
-    all_answer(&rt, &mut world, Service::ProtocolsPerHandle, &PROTOCOLS)?;
-    all_answer(&rt, &mut world, Service::LocateHandleBuffer, &BUFFERS)?;
-    all_answer(
-        &rt,
-        &mut world,
-        Service::OpenProtocolInformation,
-        &INFORMATIONS,
-    )?;
-    are_words(&rt, &world, FIRST, &[4, 7]);
+    all_answer(rt, world, Service::ProtocolsPerHandle, &PROTOCOLS)?;
+    all_answer(rt, world, Service::LocateHandleBuffer, &BUFFERS)?;
+    all_answer(rt, world, Service::OpenProtocolInformation, &INFORMATIONS)?;
+    are_words(rt, world, FIRST, &[4, 7]);
     // a block of no bytes still has room
-    let _ = call(&mut world, Service::CloseProtocol, &[4, NAME, 1, 0])?;
+    let _ = call(world, Service::CloseProtocol, &[4, NAME, 1, 0])?;
     let none = [4, NAME, FIRST, SECOND];
-    assert_eq!(rt;
-        call(&mut world, Service::OpenProtocolInformation, &none)?,
-        DONE
-    );
+    assert_eq!(rt; call(world, Service::OpenProtocolInformation, &none)?, DONE);
     Ok(())
 }
 
@@ -205,25 +199,24 @@ const MORE_INFORMATIONS: [Call; 3] = [
 #[test]
 fn most_blocks(rt: HostRuntime) -> Result<(), Fail> {
     let mut world = prepared(&rt)?;
+    most_blocks_in(&rt, &mut world)
+}
+
+fn most_blocks_in(rt: &(impl AllocGlobal + Abort), world: &mut World) -> Result<(), Fail> {
     // beside the loaded image block
     for _ in 0..65_535 {
         world.allot(Vec::new(rt.alloc()), SegKind::Pool)?;
     }
-    all_answer(&rt, &mut world, Service::AllocatePool, &MORE_BLOCKS)?;
+    all_answer(rt, world, Service::AllocatePool, &MORE_BLOCKS)?;
+    all_answer(rt, world, Service::ProtocolsPerHandle, &MORE_PROTOCOLS)?;
+    all_answer(rt, world, Service::LocateHandleBuffer, &MORE_BUFFERS)?;
     all_answer(
-        &rt,
-        &mut world,
-        Service::ProtocolsPerHandle,
-        &MORE_PROTOCOLS,
-    )?;
-    all_answer(&rt, &mut world, Service::LocateHandleBuffer, &MORE_BUFFERS)?;
-    all_answer(
-        &rt,
-        &mut world,
+        rt,
+        world,
         Service::OpenProtocolInformation,
         &MORE_INFORMATIONS,
     )?;
-    are_words(&rt, &world, FIRST, &[4]);
+    are_words(rt, world, FIRST, &[4]);
     Ok(())
 }
 
@@ -260,15 +253,19 @@ fn new_handles(world: &mut World, many: u64) -> Result<(), Fail> {
 #[test]
 fn full_database(rt: HostRuntime) -> Result<(), Fail> {
     let mut world = prepared(&rt)?;
-    new_handles(&mut world, 4092)?;
-    are_words(&rt, &world, FIRST, &[4096]);
+    full_database_in(&rt, &mut world)
+}
+
+fn full_database_in(rt: &(impl AllocGlobal + Abort), world: &mut World) -> Result<(), Fail> {
+    new_handles(world, 4092)?;
+    are_words(rt, world, FIRST, &[4096]);
     world.write(FIRST, 8, 0)?;
     world.write(SECOND, 8, 4)?;
-    all_answer(&rt, &mut world, Service::Install, &NEW_HANDLES)?;
+    all_answer(rt, world, Service::Install, &NEW_HANDLES)?;
     for (list, served) in NEW_LISTS {
-        assert_eq!(rt; install_list(&mut world, &list)?, served, "at {list:?}");
+        assert_eq!(rt; install_list(world, &list)?, served, "at {list:?}");
     }
-    are_words(&rt, &world, FIRST, &[0, 4]);
+    are_words(rt, world, FIRST, &[0, 4]);
     Ok(())
 }
 
@@ -335,21 +332,21 @@ const HANDLE_PROTOCOLS: [Call; 4] = [
 #[test]
 fn full_table(rt: HostRuntime) -> Result<(), Fail> {
     let mut world = prepared(&rt)?;
-    new_handles(&mut world, 15)?;
+    full_table_in(&rt, &mut world)
+}
+
+fn full_table_in(rt: &(impl AllocGlobal + Abort), world: &mut World) -> Result<(), Fail> {
+    new_handles(world, 15)?;
     world.write(FIRST, 8, 4)?;
-    let _ = call(
-        &mut world,
-        Service::OpenProtocol,
-        &[4, NAME, SECOND, 3, 2, 0x10],
-    )?;
-    fill_table(&mut world)?;
+    let _ = call(world, Service::OpenProtocol, &[4, NAME, SECOND, 3, 2, 0x10])?;
+    fill_table(world)?;
     assert_eq!(rt; world.entries().len(), 65_536);
     world.write(SECOND, 8, 7)?;
-    all_answer(&rt, &mut world, Service::OpenProtocol, &OPENS)?;
-    all_answer(&rt, &mut world, Service::HandleProtocol, &HANDLE_PROTOCOLS)?;
+    all_answer(rt, world, Service::OpenProtocol, &OPENS)?;
+    all_answer(rt, world, Service::HandleProtocol, &HANDLE_PROTOCOLS)?;
     assert_eq!(rt; world.entries().len(), 65_536);
-    let _ = call(&mut world, Service::CloseProtocol, &[4, OTHER, 1, 1])?;
+    let _ = call(world, Service::CloseProtocol, &[4, OTHER, 1, 1])?;
     let open = [4, OTHER, SECOND, 3, 2, 0x10];
-    assert_eq!(rt; call(&mut world, Service::OpenProtocol, &open)?, DONE);
+    assert_eq!(rt; call(world, Service::OpenProtocol, &open)?, DONE);
     Ok(())
 }

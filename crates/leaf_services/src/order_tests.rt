@@ -152,14 +152,14 @@ const SECOND_OPENS: [Call; 9] = [
 #[test]
 fn opens(rt: HostRuntime) -> Result<(), Fail> {
     let mut world = prepared(&rt)?;
-    all_answer(&rt, &mut world, Service::OpenProtocol, &OPENS)?;
+    opens_in(&rt, &mut world)
+}
+
+fn opens_in(rt: &(impl AllocGlobal + Abort), world: &mut World) -> Result<(), Fail> {
+    all_answer(rt, world, Service::OpenProtocol, &OPENS)?;
     assert_eq!(rt; world.entries().len(), 0);
-    let _ = call(
-        &mut world,
-        Service::OpenProtocol,
-        &[4, NAME, SECOND, 3, 2, 0x10],
-    )?;
-    all_answer(&rt, &mut world, Service::OpenProtocol, &SECOND_OPENS)?;
+    let _ = call(world, Service::OpenProtocol, &[4, NAME, SECOND, 3, 2, 0x10])?;
+    all_answer(rt, world, Service::OpenProtocol, &SECOND_OPENS)?;
     assert_eq!(rt; world.entries().len(), 1);
     Ok(())
 }
@@ -262,13 +262,17 @@ const SEARCHES: [Call; 14] = [
 #[test]
 fn searches(rt: HostRuntime) -> Result<(), Fail> {
     let mut world = prepared(&rt)?;
+    searches_in(&rt, &mut world)
+}
+
+fn searches_in(rt: &(impl AllocGlobal + Abort), world: &mut World) -> Result<(), Fail> {
     world.write(FIRST, 8, 8)?;
-    all_answer(&rt, &mut world, Service::LocateHandle, &SEARCHES)?;
+    all_answer(rt, world, Service::LocateHandle, &SEARCHES)?;
     // a size that is not enough before what is wrong with the buffer; the one that is needed is stored
     for buffer in [0, BAD] {
         world.write(FIRST, 8, 7)?;
         let small = ([2, NAME, 0, FIRST, buffer, 0], SMALL);
-        all_answer(&rt, &mut world, Service::LocateHandle, &[small])?;
+        all_answer(rt, world, Service::LocateHandle, &[small])?;
         assert_eq!(rt; world.read(FIRST, 8), Some(8));
     }
     Ok(())
@@ -335,14 +339,18 @@ const LISTS: [Call; 10] = [
 #[test]
 fn lists(rt: HostRuntime) -> Result<(), Fail> {
     let mut world = prepared(&rt)?;
+    lists_in(&rt, &mut world)
+}
+
+fn lists_in(rt: &(impl AllocGlobal + Abort), world: &mut World) -> Result<(), Fail> {
     world.write(SECOND, 8, 99)?;
     for (list, served) in LISTS {
-        assert_eq!(rt; install_list(&mut world, &list)?, served, "at {list:?}");
+        assert_eq!(rt; install_list(world, &list)?, served, "at {list:?}");
     }
     // the list is read before all else
     world.write(STACK_END - 8, 8, 0)?;
     assert_eq!(rt;
-        called_at(&mut world, Service::InstallMultiple, STACK_END - 8)?,
+        called_at(world, Service::InstallMultiple, STACK_END - 8)?,
         TRAPPED
     );
     assert_eq!(rt;

@@ -73,14 +73,20 @@ pub(crate) fn put_name(world: &mut World, at: u64, number: u64) -> Result<(), Fa
 /// `FIRST`. Of protocols 2 and 9 there are only the GUIDs, at `OTHER` and `NOWHERE`.
 pub(crate) fn prepared(rt: &impl AllocGlobal) -> Result<World, Fail> {
     let mut world = world_with(rt, 4_000_000)?;
-    put_name(&mut world, NAME, 1)?;
-    put_name(&mut world, OTHER, 2)?;
-    put_name(&mut world, NOWHERE, 9)?;
+    prepare(&mut world)?;
+    Ok(world)
+}
+
+/// Puts the GUIDs, and installs protocol 1.
+fn prepare(world: &mut World) -> Result<(), Fail> {
+    put_name(world, NAME, 1)?;
+    put_name(world, OTHER, 2)?;
+    put_name(world, NOWHERE, 9)?;
     // 5b1b31a1-9562-11d2-8e3f-00a0c969723b
     world.write(LOADED, 8, 0x11d2_9562_5b1b_31a1)?;
     world.write(LOADED + 8, 8, 0x3b72_69c9_a000_3f8e)?;
-    let _ = call(&mut world, Service::Install, &[FIRST, NAME, 0, 5])?;
-    Ok(world)
+    let _ = call(world, Service::Install, &[FIRST, NAME, 0, 5])?;
+    Ok(())
 }
 
 /// Handle 3, of the image that calls.
@@ -154,22 +160,26 @@ fn only_record(
 #[test]
 fn first_interface(rt: HostRuntime) -> Result<(), Fail> {
     let mut world = world_with(&rt, 100)?;
+    first_interface_in(&rt, &mut world)
+}
+
+fn first_interface_in(rt: &(impl AllocGlobal + Abort), world: &mut World) -> Result<(), Fail> {
     // 00 b2 f5 4c b8 68 a5 4c 9e ec b2 3e 3f 50 02 9a
     world.write(NAME, 8, 0x4ca5_68b8_4cf5_b200)?;
     world.write(NAME + 8, 8, 0x9a02_503f_3eb2_ec9e)?;
     let install = [FIRST, NAME, 0, 5];
-    assert_eq!(rt; call(&mut world, Service::Install, &install)?, DONE);
-    are_words(&rt, &world, FIRST, &[4, 0]);
+    assert_eq!(rt; call(world, Service::Install, &install)?, DONE);
+    are_words(rt, world, FIRST, &[4, 0]);
     for count in 1..3 {
         world.write(SECOND, 8, 7)?;
-        let served = call(&mut world, Service::HandleProtocol, &[4, NAME, SECOND])?;
+        let served = call(world, Service::HandleProtocol, &[4, NAME, SECOND])?;
         assert_eq!(rt; served, DONE);
-        are_words(&rt, &world, FIRST, &[4, 5]);
-        let record = only_record(&world, fourth(), Guid::known(Known::PciIo))?;
+        are_words(rt, world, FIRST, &[4, 5]);
+        let record = only_record(world, fourth(), Guid::known(Known::PciIo))?;
         assert_eq!(rt; record, Some((1, 0, 0x01, count)));
     }
-    assert_eq!(rt; call(&mut world, Service::Install, &install)?, INVALID);
-    are_words(&rt, &world, FIRST, &[4, 5]);
+    assert_eq!(rt; call(world, Service::Install, &install)?, INVALID);
+    are_words(rt, world, FIRST, &[4, 5]);
     assert_eq!(rt; world.left(), 68);
     Ok(())
 }
@@ -178,17 +188,21 @@ fn first_interface(rt: HostRuntime) -> Result<(), Fail> {
 #[test]
 fn interfaces_to_uninstall(rt: HostRuntime) -> Result<(), Fail> {
     let mut world = prepared(&rt)?;
-    let _ = call(&mut world, Service::HandleProtocol, &[4, NAME, SECOND])?;
+    interfaces_to_uninstall_in(&rt, &mut world)
+}
+
+fn interfaces_to_uninstall_in(
+    rt: &(impl AllocGlobal + Abort),
+    world: &mut World,
+) -> Result<(), Fail> {
+    let _ = call(world, Service::HandleProtocol, &[4, NAME, SECOND])?;
     for attr in [0x08u64, 0x10, 0x20, 0x30] {
         let open = [4, NAME, SECOND, 3, 2, attr];
-        assert_eq!(rt; call(&mut world, Service::OpenProtocol, &open)?, DONE);
-        assert_eq!(rt;
-            call(&mut world, Service::Uninstall, &[4, NAME, 5])?,
-            GOES_ON
-        );
+        assert_eq!(rt; call(world, Service::OpenProtocol, &open)?, DONE);
+        assert_eq!(rt; call(world, Service::Uninstall, &[4, NAME, 5])?, GOES_ON);
         let close = [4, NAME, 3, 2];
-        assert_eq!(rt; call(&mut world, Service::CloseProtocol, &close)?, DONE);
-        assert_eq!(rt; call(&mut world, Service::CloseProtocol, &close)?, MISSING);
+        assert_eq!(rt; call(world, Service::CloseProtocol, &close)?, DONE);
+        assert_eq!(rt; call(world, Service::CloseProtocol, &close)?, MISSING);
     }
     assert_eq!(rt; (world.entries().len(), world.db().is_live(4)), (1, true));
     Ok(())
@@ -199,22 +213,17 @@ fn interfaces_to_uninstall(rt: HostRuntime) -> Result<(), Fail> {
 #[test]
 fn pairs_to_uninstall(rt: HostRuntime) -> Result<(), Fail> {
     let mut world = prepared(&rt)?;
-    assert_eq!(rt;
-        uninstall_list(&mut world, &[4, NAME, 5, NAME, 5, 0])?,
-        GOES_ON
-    );
-    assert_eq!(rt;
-        uninstall_list(&mut world, &[4, NAME, 5, NAME, 6, 0])?,
-        INVALID
-    );
-    assert_eq!(rt;
-        uninstall_list(&mut world, &[4, NAME, 5, OTHER, 5, 0])?,
-        INVALID
-    );
-    assert_eq!(rt; uninstall_list(&mut world, &[4, 0])?, GOES_ON);
-    assert_eq!(rt; uninstall_list(&mut world, &[99, 0])?, INVALID);
+    pairs_to_uninstall_in(&rt, &mut world)
+}
+
+fn pairs_to_uninstall_in(rt: &(impl AllocGlobal + Abort), world: &mut World) -> Result<(), Fail> {
+    assert_eq!(rt; uninstall_list(world, &[4, NAME, 5, NAME, 5, 0])?, GOES_ON);
+    assert_eq!(rt; uninstall_list(world, &[4, NAME, 5, NAME, 6, 0])?, INVALID);
+    assert_eq!(rt; uninstall_list(world, &[4, NAME, 5, OTHER, 5, 0])?, INVALID);
+    assert_eq!(rt; uninstall_list(world, &[4, 0])?, GOES_ON);
+    assert_eq!(rt; uninstall_list(world, &[99, 0])?, INVALID);
     // pointers before the handle
-    assert_eq!(rt; uninstall_list(&mut world, &[99, BAD, 5, 0])?, TRAPPED);
+    assert_eq!(rt; uninstall_list(world, &[99, BAD, 5, 0])?, TRAPPED);
     Ok(())
 }
 
@@ -222,9 +231,13 @@ fn pairs_to_uninstall(rt: HostRuntime) -> Result<(), Fail> {
 #[test]
 fn pairs(rt: HostRuntime) -> Result<(), Fail> {
     let mut world = prepared(&rt)?;
+    pairs_in(&rt, &mut world)
+}
+
+fn pairs_in(rt: &(impl AllocGlobal + Abort), world: &mut World) -> Result<(), Fail> {
     world.write(FIRST, 8, 0)?;
     let refused = [FIRST, OTHER, 6, NOWHERE, 7, OTHER, 8, 0];
-    assert_eq!(rt; install_list(&mut world, &refused)?, INVALID);
+    assert_eq!(rt; install_list(world, &refused)?, INVALID);
     assert_eq!(rt;
         (world.read(FIRST, 8), world.db().is_live(5)),
         (Some(0), false)
@@ -232,10 +245,10 @@ fn pairs(rt: HostRuntime) -> Result<(), Fail> {
     // on a handle that has the third
     let list = [FIRST, OTHER, 6, NOWHERE, 7, NAME, 8, 0];
     world.write(FIRST, 8, 4)?;
-    assert_eq!(rt; install_list(&mut world, &list)?, INVALID);
+    assert_eq!(rt; install_list(world, &list)?, INVALID);
     assert_eq!(rt; world.db().interface_count(fourth()), 1);
     world.write(FIRST, 8, 0)?;
-    assert_eq!(rt; install_list(&mut world, &list)?, DONE);
+    assert_eq!(rt; install_list(world, &list)?, DONE);
     assert_eq!(rt; world.read(FIRST, 8), Some(5));
     for (number, interface) in [(2, 6), (9, 7), (1, 8)] {
         let found = world.db().interface(fifth(), numbered(number));
@@ -275,9 +288,13 @@ const OPENS: [Open; 14] = [
 #[test]
 fn opens(rt: HostRuntime) -> Result<(), Fail> {
     let mut world = prepared(&rt)?;
+    opens_in(&rt, &mut world)
+}
+
+fn opens_in(rt: &(impl AllocGlobal + Abort), world: &mut World) -> Result<(), Fail> {
     for (arguments, served, stored, count) in OPENS {
         world.write(SECOND, 8, 7)?;
-        let answer = call(&mut world, Service::OpenProtocol, &arguments)?;
+        let answer = call(world, Service::OpenProtocol, &arguments)?;
         assert_eq!(rt; answer, served, "at {arguments:?}");
         assert_eq!(rt; world.read(SECOND, 8), Some(stored), "at {arguments:?}");
         assert_eq!(rt; world.entries().len(), count, "at {arguments:?}");
@@ -289,9 +306,16 @@ fn opens(rt: HostRuntime) -> Result<(), Fail> {
 #[test]
 fn exclusive_for_a_dead_controller(rt: HostRuntime) -> Result<(), Fail> {
     let mut world = prepared(&rt)?;
+    exclusive_for_a_dead_controller_in(&rt, &mut world)
+}
+
+fn exclusive_for_a_dead_controller_in(
+    rt: &(impl AllocGlobal + Abort),
+    world: &mut World,
+) -> Result<(), Fail> {
     let open = [4, NAME, SECOND, 3, 99, 0x20];
-    assert_eq!(rt; call(&mut world, Service::OpenProtocol, &open)?, DONE);
-    let record = only_record(&world, fourth(), numbered(1))?;
+    assert_eq!(rt; call(world, Service::OpenProtocol, &open)?, DONE);
+    let record = only_record(world, fourth(), numbered(1))?;
     assert_eq!(rt; record, Some((3, 0, 0x20, 1)));
     Ok(())
 }
@@ -313,6 +337,10 @@ const LOOKS: [Look; 4] = [
 #[test]
 fn second_looks(rt: HostRuntime) -> Result<(), Fail> {
     let mut world = prepared(&rt)?;
+    second_looks_in(&rt, &mut world)
+}
+
+fn second_looks_in(rt: &(impl AllocGlobal + Abort), world: &mut World) -> Result<(), Fail> {
     for (agent, controller, bits, answer, stored) in LOOKS {
         world.write(SECOND, 8, 7)?;
         let opening = Opening {
@@ -321,12 +349,12 @@ fn second_looks(rt: HostRuntime) -> Result<(), Fail> {
             out: SECOND,
             agent,
             controller,
-            attr: Attr::legal(bits).expect(&rt, "legal attributes"),
+            attr: Attr::legal(bits).expect(rt, "legal attributes"),
         };
-        assert_eq!(rt; answer_of(reopen(&mut world, &opening)?), answer);
+        assert_eq!(rt; answer_of(reopen(world, &opening)?), answer);
         assert_eq!(rt; world.read(SECOND, 8), Some(stored));
     }
-    let record = only_record(&world, fourth(), numbered(1))?;
+    let record = only_record(world, fourth(), numbered(1))?;
     assert_eq!(rt; record, Some((3, 0, 0x20, 1)));
     Ok(())
 }
@@ -337,28 +365,22 @@ fn second_looks(rt: HostRuntime) -> Result<(), Fail> {
 #[test]
 fn information(rt: HostRuntime) -> Result<(), Fail> {
     let mut world = prepared(&rt)?;
+    information_in(&rt, &mut world)
+}
+
+fn information_in(rt: &(impl AllocGlobal + Abort), world: &mut World) -> Result<(), Fail> {
     let ask = [4, NAME, FIRST, SECOND];
-    assert_eq!(rt;
-        call(&mut world, Service::OpenProtocolInformation, &ask)?,
-        DONE
-    );
-    are_words(&rt, &world, FIRST, &[0x1_0000_0060, 0]);
+    assert_eq!(rt; call(world, Service::OpenProtocolInformation, &ask)?, DONE);
+    are_words(rt, world, FIRST, &[0x1_0000_0060, 0]);
     assert_eq!(rt; world.read(0x1_0000_0060, 1), None);
-    let _ = call(
-        &mut world,
-        Service::OpenProtocol,
-        &[4, NAME, SECOND, 3, 2, 0x10],
-    )?;
-    let _ = call(&mut world, Service::HandleProtocol, &[4, NAME, SECOND])?;
-    let _ = call(&mut world, Service::HandleProtocol, &[4, NAME, SECOND])?;
-    assert_eq!(rt;
-        call(&mut world, Service::OpenProtocolInformation, &ask)?,
-        DONE
-    );
-    are_words(&rt, &world, FIRST, &[0x1_0000_0070, 2]);
+    let _ = call(world, Service::OpenProtocol, &[4, NAME, SECOND, 3, 2, 0x10])?;
+    let _ = call(world, Service::HandleProtocol, &[4, NAME, SECOND])?;
+    let _ = call(world, Service::HandleProtocol, &[4, NAME, SECOND])?;
+    assert_eq!(rt; call(world, Service::OpenProtocolInformation, &ask)?, DONE);
+    are_words(rt, world, FIRST, &[0x1_0000_0070, 2]);
     are_words(
-        &rt,
-        &world,
+        rt,
+        world,
         0x1_0000_0070,
         &[3, 2, 0x1_0000_0010, 1, 0, 0x2_0000_0001],
     );
@@ -370,13 +392,17 @@ fn information(rt: HostRuntime) -> Result<(), Fail> {
 #[test]
 fn protocols(rt: HostRuntime) -> Result<(), Fail> {
     let mut world = prepared(&rt)?;
-    let _ = call(&mut world, Service::Install, &[FIRST, OTHER, 0, 6])?;
+    protocols_in(&rt, &mut world)
+}
+
+fn protocols_in(rt: &(impl AllocGlobal + Abort), world: &mut World) -> Result<(), Fail> {
+    let _ = call(world, Service::Install, &[FIRST, OTHER, 0, 6])?;
     let ask = [4, FIRST, SECOND];
-    assert_eq!(rt; call(&mut world, Service::ProtocolsPerHandle, &ask)?, DONE);
-    are_words(&rt, &world, FIRST, &[0x1_0000_0060, 2]);
+    assert_eq!(rt; call(world, Service::ProtocolsPerHandle, &ask)?, DONE);
+    are_words(rt, world, FIRST, &[0x1_0000_0060, 2]);
     are_words(
-        &rt,
-        &world,
+        rt,
+        world,
         0x1_0000_0060,
         &[0x1_0000_0070, 0x1_0000_0080, 0, 1, 0, 2],
     );
@@ -400,17 +426,21 @@ fn with_two(rt: &impl AllocGlobal) -> Result<World, Fail> {
 #[test]
 fn rising_handles(rt: HostRuntime) -> Result<(), Fail> {
     let mut world = with_two(&rt)?;
+    rising_handles_in(&rt, &mut world)
+}
+
+fn rising_handles_in(rt: &(impl AllocGlobal + Abort), world: &mut World) -> Result<(), Fail> {
     world.write(FIRST, 8, 99)?;
     // neither the key nor the upper half of the type of search is looked at
     let ask = [0x1_0000_0002, OTHER, BAD, FIRST, SECOND];
-    assert_eq!(rt; call(&mut world, Service::LocateHandle, &ask)?, DONE);
-    are_words(&rt, &world, FIRST, &[16, 2, 5]);
+    assert_eq!(rt; call(world, Service::LocateHandle, &ask)?, DONE);
+    are_words(rt, world, FIRST, &[16, 2, 5]);
     // of all handles the GUID is not looked at
     let all = [0, BAD, BAD, FIRST, SECOND];
-    assert_eq!(rt; call(&mut world, Service::LocateHandle, &all)?, SMALL);
-    are_words(&rt, &world, FIRST, &[40, 2, 5]);
-    assert_eq!(rt; call(&mut world, Service::LocateHandle, &all)?, DONE);
-    are_words(&rt, &world, FIRST, &[40, 1, 2, 3, 4, 5]);
+    assert_eq!(rt; call(world, Service::LocateHandle, &all)?, SMALL);
+    are_words(rt, world, FIRST, &[40, 2, 5]);
+    assert_eq!(rt; call(world, Service::LocateHandle, &all)?, DONE);
+    are_words(rt, world, FIRST, &[40, 1, 2, 3, 4, 5]);
     Ok(())
 }
 
@@ -418,14 +448,18 @@ fn rising_handles(rt: HostRuntime) -> Result<(), Fail> {
 #[test]
 fn handles_in_a_block(rt: HostRuntime) -> Result<(), Fail> {
     let mut world = with_two(&rt)?;
+    handles_in_a_block_in(&rt, &mut world)
+}
+
+fn handles_in_a_block_in(rt: &(impl AllocGlobal + Abort), world: &mut World) -> Result<(), Fail> {
     let all = [0, BAD, BAD, FIRST, SECOND];
-    assert_eq!(rt; call(&mut world, Service::LocateHandleBuffer, &all)?, DONE);
-    are_words(&rt, &world, FIRST, &[5, 0x1_0000_0060]);
-    are_words(&rt, &world, 0x1_0000_0060, &[1, 2, 3, 4, 5]);
+    assert_eq!(rt; call(world, Service::LocateHandleBuffer, &all)?, DONE);
+    are_words(rt, world, FIRST, &[5, 0x1_0000_0060]);
+    are_words(rt, world, 0x1_0000_0060, &[1, 2, 3, 4, 5]);
     let ask = [2, OTHER, BAD, FIRST, FIRST];
-    assert_eq!(rt; call(&mut world, Service::LocateHandleBuffer, &ask)?, DONE);
-    are_words(&rt, &world, FIRST, &[0x1_0000_0090]);
-    are_words(&rt, &world, 0x1_0000_0090, &[2, 5]);
+    assert_eq!(rt; call(world, Service::LocateHandleBuffer, &ask)?, DONE);
+    are_words(rt, world, FIRST, &[0x1_0000_0090]);
+    are_words(rt, world, 0x1_0000_0090, &[2, 5]);
     Ok(())
 }
 
@@ -433,11 +467,15 @@ fn handles_in_a_block(rt: HostRuntime) -> Result<(), Fail> {
 #[test]
 fn least_handle(rt: HostRuntime) -> Result<(), Fail> {
     let mut world = with_two(&rt)?;
+    least_handle_in(&rt, &mut world)
+}
+
+fn least_handle_in(rt: &(impl AllocGlobal + Abort), world: &mut World) -> Result<(), Fail> {
     let ask = [OTHER, BAD, FIRST];
-    assert_eq!(rt; call(&mut world, Service::LocateProtocol, &ask)?, DONE);
-    are_words(&rt, &world, FIRST, &[8]);
+    assert_eq!(rt; call(world, Service::LocateProtocol, &ask)?, DONE);
+    are_words(rt, world, FIRST, &[8]);
     let ask = [NOWHERE, BAD, FIRST];
-    assert_eq!(rt; call(&mut world, Service::LocateProtocol, &ask)?, MISSING);
-    are_words(&rt, &world, FIRST, &[0]);
+    assert_eq!(rt; call(world, Service::LocateProtocol, &ask)?, MISSING);
+    are_words(rt, world, FIRST, &[0]);
     Ok(())
 }

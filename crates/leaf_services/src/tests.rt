@@ -8,6 +8,7 @@ use guest_memory::GuestMem;
 use pci_model::Board;
 use service_thunks::Service;
 use std::alloc::AllocError;
+use std::process::Abort;
 use std::test::Fail;
 
 /// The beginning of the sixteen slots of the stack of level 1, and the end of the stack.
@@ -43,9 +44,15 @@ fn bytes_of(rt: &impl AllocGlobal, len: usize, byte: u8) -> Result<Vec<u8>, Allo
 pub(crate) fn world_with(rt: &impl AllocGlobal, units: u32) -> Result<World, Fail> {
     let mut world = World::new(rt.alloc(), Board::empty(rt.alloc()), Vec::new(rt.alloc()))?;
     let _ = world.push_stack(1, &[0; 16], &[])?;
+    add_caller(rt, &mut world, units)?;
+    Ok(world)
+}
+
+/// Adds the image and the units.
+fn add_caller(rt: &impl AllocGlobal, world: &mut World, units: u32) -> Result<(), Fail> {
     let _ = world.add_image(vec![in rt.alloc(); 0x11u8, 0x22, 0x33, 0x44]?, 0, 11, 0)?;
     world.begin_command(units);
-    Ok(world)
+    Ok(())
 }
 
 /// A service called by image 3 with these arguments.
@@ -81,9 +88,13 @@ pub(crate) fn with(status: Status) -> Answer {
 #[test]
 fn first_block(rt: HostRuntime) -> Result<(), Fail> {
     let mut world = world_with(&rt, 100)?;
+    first_block_in(&rt, &mut world)
+}
+
+fn first_block_in(rt: &(impl AllocGlobal + Abort), world: &mut World) -> Result<(), Fail> {
     world.write(PLACE, 8, 0x1234)?;
     assert_eq!(rt;
-        call(&mut world, Service::AllocatePool, &[4, 24, PLACE])?,
+        call(world, Service::AllocatePool, &[4, 24, PLACE])?,
         with(Status::SUCCESS)
     );
     assert_eq!(rt;
@@ -102,6 +113,10 @@ fn first_block(rt: HostRuntime) -> Result<(), Fail> {
 #[test]
 fn sizes_of_blocks(rt: HostRuntime) -> Result<(), Fail> {
     let mut world = world_with(&rt, 3_000_000)?;
+    sizes_of_blocks_in(&rt, &mut world)
+}
+
+fn sizes_of_blocks_in(rt: &(impl AllocGlobal + Abort), world: &mut World) -> Result<(), Fail> {
     let sizes: [(u64, Status, u64, u64); 7] = [
         (0, Status::SUCCESS, 0x1_0000_0060, 1),
         // it takes 16 addresses all the same
@@ -116,7 +131,7 @@ fn sizes_of_blocks(rt: HostRuntime) -> Result<(), Fail> {
     for (size, status, at, price) in sizes {
         world.write(PLACE, 8, 7)?;
         let before = world.left();
-        let served = call(&mut world, Service::AllocatePool, &[0, size, PLACE])?;
+        let served = call(world, Service::AllocatePool, &[0, size, PLACE])?;
         assert_eq!(rt; served, with(status));
         assert_eq!(rt;
             (world.read(PLACE, 8), before.saturating_sub(world.left())),
@@ -130,6 +145,10 @@ fn sizes_of_blocks(rt: HostRuntime) -> Result<(), Fail> {
 #[test]
 fn places_of_blocks(rt: HostRuntime) -> Result<(), Fail> {
     let mut world = world_with(&rt, 100)?;
+    places_of_blocks_in(&rt, &mut world)
+}
+
+fn places_of_blocks_in(rt: &(impl AllocGlobal + Abort), world: &mut World) -> Result<(), Fail> {
     let places: [(u64, u64, Answer); 5] = [
         (0, 24, with(Status::INVALID_PARAMETER)),
         (0, 67_108_865, with(Status::INVALID_PARAMETER)),
@@ -140,12 +159,12 @@ fn places_of_blocks(rt: HostRuntime) -> Result<(), Fail> {
     ];
     for (out, size, served) in places {
         assert_eq!(rt;
-            call(&mut world, Service::AllocatePool, &[0, size, out])?,
+            call(world, Service::AllocatePool, &[0, size, out])?,
             served
         );
     }
     // none was made
-    let _ = call(&mut world, Service::AllocatePool, &[0, 1, PLACE])?;
+    let _ = call(world, Service::AllocatePool, &[0, 1, PLACE])?;
     assert_eq!(rt; world.read(PLACE, 8), Some(0x1_0000_0060));
     Ok(())
 }
@@ -154,7 +173,11 @@ fn places_of_blocks(rt: HostRuntime) -> Result<(), Fail> {
 #[test]
 fn freed_blocks(rt: HostRuntime) -> Result<(), Fail> {
     let mut world = world_with(&rt, 100)?;
-    let _ = call(&mut world, Service::AllocatePool, &[0, 24, PLACE])?;
+    freed_blocks_in(&rt, &mut world)
+}
+
+fn freed_blocks_in(rt: &(impl AllocGlobal + Abort), world: &mut World) -> Result<(), Fail> {
+    let _ = call(world, Service::AllocatePool, &[0, 24, PLACE])?;
     let places: [(u64, Status); 6] = [
         // the loaded image block, the image, and a block's second byte
         (0x1_0000_0000, Status::INVALID_PARAMETER),
@@ -166,7 +189,7 @@ fn freed_blocks(rt: HostRuntime) -> Result<(), Fail> {
     ];
     for (at, status) in places {
         let before = world.left();
-        assert_eq!(rt; call(&mut world, Service::FreePool, &[at])?, with(status));
+        assert_eq!(rt; call(world, Service::FreePool, &[at])?, with(status));
         assert_eq!(rt; before.saturating_sub(world.left()), 4);
     }
     assert_eq!(rt; world.read(0x1_0000_0060, 1), None);
@@ -177,10 +200,14 @@ fn freed_blocks(rt: HostRuntime) -> Result<(), Fail> {
 #[test]
 fn overlapping_copies(rt: HostRuntime) -> Result<(), Fail> {
     let mut world = world_with(&rt, 100)?;
+    overlapping_copies_in(&rt, &mut world)
+}
+
+fn overlapping_copies_in(rt: &(impl AllocGlobal + Abort), world: &mut World) -> Result<(), Fail> {
     world.write(PLACE, 8, 0x0807_0605_0403_0201)?;
     world.write(PLACE + 8, 8, 0x1817_1615_1413_1211)?;
     assert_eq!(rt;
-        call(&mut world, Service::CopyMem, &[PLACE + 3, PLACE, 9])?,
+        call(world, Service::CopyMem, &[PLACE + 3, PLACE, 9])?,
         Answer::Value(0)
     );
     assert_eq!(rt;
@@ -188,7 +215,7 @@ fn overlapping_copies(rt: HostRuntime) -> Result<(), Fail> {
         (Some(0x0504_0302_0103_0201), Some(0x1817_1615_1108_0706), 97)
     );
     assert_eq!(rt;
-        call(&mut world, Service::CopyMem, &[PLACE, PLACE + 2, 8])?,
+        call(world, Service::CopyMem, &[PLACE, PLACE + 2, 8])?,
         Answer::Value(0)
     );
     assert_eq!(rt;

@@ -39,8 +39,12 @@ fn on_a_bridge(rt: &(impl AllocGlobal + Abort)) -> Result<World, Fail> {
 #[test]
 fn children_of_a_root(rt: HostRuntime) -> Result<(), Fail> {
     let mut world = on_a_bridge(&rt)?;
+    children_of_a_root_in(&rt, &mut world)
+}
+
+fn children_of_a_root_in(rt: &(impl AllocGlobal + Abort), world: &mut World) -> Result<(), Fail> {
     let root = Handle::bus_driver().next();
-    let child = make_child(&mut world, root, 1)?;
+    let child = make_child(world, root, 1)?;
     assert_eq!(rt; child.get(), 4);
     let firmware = Handle::firmware();
     let found = world.db().protocols_of(child)?;
@@ -71,7 +75,7 @@ fn children_of_a_root(rt: HostRuntime) -> Result<(), Fail> {
     for (at, value) in fields {
         assert_eq!(rt; world.read(at, 8), Some(value));
     }
-    let bridge = make_child(&mut world, root, 0)?;
+    let bridge = make_child(world, root, 0)?;
     assert_eq!(rt; world.db().protocols_of(bridge)?.len(), 2);
     Ok(())
 }
@@ -80,9 +84,13 @@ fn children_of_a_root(rt: HostRuntime) -> Result<(), Fail> {
 #[test]
 fn children_are_known(rt: HostRuntime) -> Result<(), Fail> {
     let mut world = on_a_bridge(&rt)?;
+    children_are_known_in(&rt, &mut world)
+}
+
+fn children_are_known_in(rt: &(impl AllocGlobal + Abort), world: &mut World) -> Result<(), Fail> {
     let root = Handle::bus_driver().next();
-    let first = make_child(&mut world, root, 1)?;
-    let second = make_child(&mut world, root, 1)?;
+    let first = make_child(world, root, 1)?;
+    let second = make_child(world, root, 1)?;
     assert_eq!(rt; world.child_of(1), Some(first));
     assert_eq!(rt; world.child_of(0), None);
     assert_eq!(rt; world.child_function(second.get()), Some(1));

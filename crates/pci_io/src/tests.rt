@@ -82,9 +82,17 @@ fn with_a_child(rt: &(impl AllocGlobal + Abort), units: u32) -> Result<World, Fa
     assert!(rt; roms.len() == board.functions() as usize);
     let mut world = World::new(rt.alloc(), board, roms)?;
     let _ = world.push_stack(1, &[0; 16], &[])?;
-    let _ = make_child(&mut world, Handle::bus_driver().next(), 0)?;
-    world.begin_command(units);
+    add_child(&mut world, units)?;
     Ok(world)
+}
+
+/// Adds the child and the units.
+fn add_child(world: &mut World, units: u32) -> Result<(), Fail>
+    ensures { OnOk result (world.new.marks ≡ world.old.marks) }
+{
+    let _ = make_child(world, Handle::bus_driver().next(), 0)?;
+    world.begin_command(units);
+    Ok(())
 }
 
 /// Puts the arguments of a call on the stack.
@@ -228,9 +236,16 @@ const WRITES: [Call; 8] = [
 #[test]
 fn writes_are_refused_in_order(rt: HostRuntime) -> Result<(), Fail> {
     let mut world = with_a_child(&rt, 1_000_000)?;
-    all_answer(&rt, &mut world, Service::MemWrite, &WRITES)?;
+    writes_are_refused_in_order_in(&rt, &mut world)
+}
+
+fn writes_are_refused_in_order_in(
+    rt: &(impl AllocGlobal + Abort),
+    world: &mut World,
+) -> Result<(), Fail> {
+    all_answer(rt, world, Service::MemWrite, &WRITES)?;
     assert_eq!(rt;
-        call(&mut world, Service::MemRead, &[THIS, 2, 1, 4, 4, PLACE])?,
+        call(world, Service::MemRead, &[THIS, 2, 1, 4, 4, PLACE])?,
         DONE
     );
     // the bytes of the table are in the BAR from 8 to 23
@@ -270,10 +285,17 @@ fn numbers_at(world: &World, places: [u64; 4]) -> [Option<u64>; 4] {
 #[test]
 fn location_has_four_numbers(rt: HostRuntime) -> Result<(), Fail> {
     let mut world = with_a_child(&rt, 100)?;
+    location_has_four_numbers_in(&rt, &mut world)
+}
+
+fn location_has_four_numbers_in(
+    rt: &(impl AllocGlobal + Abort),
+    world: &mut World,
+) -> Result<(), Fail> {
     world.write(PLACE, 8, u64::MAX)?;
     world.write(PLACE + 16, 8, u64::MAX)?;
-    all_answer(&rt, &mut world, Service::GetLocation, &LOCATIONS)?;
-    let numbers = numbers_at(&world, [PLACE, PLACE + 8, PLACE + 16, PLACE + 24]);
+    all_answer(rt, world, Service::GetLocation, &LOCATIONS)?;
+    let numbers = numbers_at(world, [PLACE, PLACE + 8, PLACE + 16, PLACE + 24]);
     assert_eq!(rt; numbers, [Some(0), Some(0), Some(3), Some(0)]);
     assert_eq!(rt; world.left(), 100 - 28);
     Ok(())
@@ -316,9 +338,16 @@ const ATTRIBUTES: [(u64, u64, u64, Answer, u64); 15] = [
 #[test]
 fn attributes_are_command_bits(rt: HostRuntime) -> Result<(), Fail> {
     let mut world = with_a_child(&rt, 1000)?;
+    attributes_are_command_bits_in(&rt, &mut world)
+}
+
+fn attributes_are_command_bits_in(
+    rt: &(impl AllocGlobal + Abort),
+    world: &mut World,
+) -> Result<(), Fail> {
     for (operation, bits, out, answer, command) in ATTRIBUTES {
         let arguments = [THIS, operation, bits, out, 0, 0];
-        let served = call(&mut world, Service::Attributes, &arguments)?;
+        let served = call(world, Service::Attributes, &arguments)?;
         assert_eq!(rt; served, answer, "at {arguments:?}");
         assert_eq!(rt;
             world.board().config_read(0, 4, 2),
@@ -331,7 +360,7 @@ fn attributes_are_command_bits(rt: HostRuntime) -> Result<(), Fail> {
         (Some(0x700), Some(0x100))
     );
     let other = [OTHER, 5, 0x800, BAD, 0, 0];
-    assert_eq!(rt; call(&mut world, Service::Attributes, &other)?, INVALID);
+    assert_eq!(rt; call(world, Service::Attributes, &other)?, INVALID);
     Ok(())
 }
 
@@ -351,13 +380,20 @@ fn elements_have_a_price(rt: HostRuntime) -> Result<(), Fail> {
 #[test]
 fn arguments_are_read_in_turn(rt: HostRuntime) -> Result<(), Fail> {
     let mut world = with_a_child(&rt, 0)?;
-    assert_eq!(rt; called_at(&mut world, Service::MemRead, BAD)?, TRAPPED);
+    arguments_are_read_in_turn_in(&rt, &mut world)
+}
+
+fn arguments_are_read_in_turn_in(
+    rt: &(impl AllocGlobal + Abort),
+    world: &mut World,
+) -> Result<(), Fail> {
+    assert_eq!(rt; called_at(world, Service::MemRead, BAD)?, TRAPPED);
     assert_eq!(rt;
-        called_at(&mut world, Service::Attributes, BAD)?,
+        called_at(world, Service::Attributes, BAD)?,
         Answer::Trap(Cause::Budget)
     );
     world.begin_command(10);
-    assert_eq!(rt; called_at(&mut world, Service::GetLocation, BAD)?, TRAPPED);
+    assert_eq!(rt; called_at(world, Service::GetLocation, BAD)?, TRAPPED);
     assert_eq!(rt; world.left(), 6);
     Ok(())
 }
@@ -385,23 +421,36 @@ fn only_byte_stays(rt: &impl Abort, world: &mut World, child: Handle) -> Result<
 #[test]
 fn undo_leaves_devices(rt: HostRuntime) -> Result<(), Fail> {
     let mut world = with_a_child(&rt, 100)?;
+    undo_leaves_devices_in(&rt, &mut world)
+}
+
+fn undo_leaves_devices_in(rt: &(impl AllocGlobal + Abort), world: &mut World) -> Result<(), Fail>
+    requires { world.old.marks ≡ [] }
+{
     world.write(PLACE, 8, 0xAB)?;
-    let mark = world.mark()?;
-    let second = make_another(&mut world)?;
+    let mark = world.mark();
+    let second = make_another(world)?;
     let byte = [SECOND_THIS, 0, 1, 7, 1, PLACE];
-    assert_eq!(rt; call(&mut world, Service::MemWrite, &byte)?, DONE);
+    assert_eq!(rt; call(world, Service::MemWrite, &byte)?, DONE);
     world.rollback(mark)?;
-    only_byte_stays(&rt, &mut world, second)
+    only_byte_stays(rt, world, second)
 }
 
 /// A handle whose PCI I/O was uninstalled is no child, also if another PCI I/O is installed there.
 #[test]
 fn uninstalled_pci_io_is_none(rt: HostRuntime) -> Result<(), Fail> {
     let mut world = with_a_child(&rt, 100)?;
+    uninstalled_pci_io_is_none_in(&rt, &mut world)
+}
+
+fn uninstalled_pci_io_is_none_in(
+    rt: &(impl AllocGlobal + Abort),
+    world: &mut World,
+) -> Result<(), Fail> {
     let child = Handle::bus_driver().next().next();
     world.uninstall(child, Guid::known(Known::PciIo))?;
     let read = [THIS, 0, 1, 0, 1, PLACE];
-    assert_eq!(rt; call(&mut world, Service::MemRead, &read)?, INVALID);
+    assert_eq!(rt; call(world, Service::MemRead, &read)?, INVALID);
     assert_eq!(rt; world.child_function(child.get()), None);
     let _ = world.install(
         Some(child),
@@ -409,6 +458,6 @@ fn uninstalled_pci_io_is_none(rt: HostRuntime) -> Result<(), Fail> {
         THIS,
         Handle::firmware(),
     )?;
-    assert_eq!(rt; call(&mut world, Service::MemRead, &read)?, INVALID);
+    assert_eq!(rt; call(world, Service::MemRead, &read)?, INVALID);
     Ok(())
 }
