@@ -1,0 +1,3 @@
+; The place of a new handle.
+new_handle:
+        .byte 0, 0, 0, 0, 0, 0, 0, 0
