@@ -1,7 +1,8 @@
 pub mod SegmentLemmas
 pub mod PutLemmas
 pub mod OrderLemmas
-pub mod PlaceLemmas
+pub mod AddressLemmas
+pub mod FilingLemmas
 pub mod ReadingLemmas
 pub mod TotalsLemmas
 pub mod MappingLemmas

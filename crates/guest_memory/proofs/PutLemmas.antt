@@ -1,11 +1,10 @@
 -- Where bytes go that are put at an address, and what they leave as it was.
-use Rattle.std.proofs.Common.{◌≡◌, ◌<◌, ◌-◌, ◌≤◌, ℕ, ◌+◌, max, Bool, true, false, not, ◌&&◌, ◌||◌, cond, List, [], ◌∷◌, ◌++◌, length-append, take, drop, length-take, length-drop, map, filter, set, length, get_or, zero, suc, replicate, refl, ap, sym, ◌∙◌, arith}
-use Rattle.std.specs.List.{list_all, list_any, position, position_or_len}
-use Rattle.std.specs.Prelude.{Some, None}
+use Rattle.std.proofs.Common.{◌≡◌, ◌-◌, ◌≤◌, ℕ, ◌+◌, max, Bool, true, false, not, ◌&&◌, ◌||◌, cond, List, [], ◌∷◌, ◌++◌, length-append, take, drop, length-take, length-drop, map, filter, length, replicate, refl, ap, sym, ◌∙◌, arith}
+use Rattle.std.specs.List.{list_all, list_any}
+use Rattle.std.specs.Prelude.{Some}
 use Rattle.std.proofs.lemmas.Bool.{and_parts, not-true}
 use Rattle.std.proofs.lemmas.Bool.Decides.{nat_tests}
 use Rattle.std.proofs.lemmas.List.{append-nil, take-append-drop, length-replicate}
-use Rattle.std.proofs.lemmas.List.Quantifiers.{position-Some}
 use Rattle.guest_memory.specs.Segment.{has_bytes, is_writable, with_bytes, replaced, extent, end_of}
 use Rattle.guest_memory.specs.GuestMemory.{holder, is_writable_holder, is_writable_range, put_bytes, lie_from}
 use Rattle.guest_memory.specs.declared.segment.Segment.{Segment}
@@ -18,55 +17,6 @@ length-replaced bytes i others h =
 -- as many bytes are in the segment as before
 pub length-with_bytes : (segment : Segment) (at : ℕ) (bytes : List ℕ) → has_bytes segment at (length bytes) ≡ true → length (with_bytes segment at bytes).bytes ≡ length segment.bytes
 length-with_bytes segment at bytes has = length-replaced segment.bytes (at - segment.base) bytes (grind (arith, nat_tests))
-
--- ---- where they go
-
-put_bytes_from : (segments : List Segment) (place at : ℕ) (bytes : List ℕ) (d : Segment) → place < length segments → has_bytes (get_or segments place d) at (length bytes) ≡ true
-    → ((k : ℕ) → k < place → has_bytes (get_or segments k d) at (length bytes) ≡ false)
-    → set segments place (with_bytes (get_or segments place d) at bytes) ≡ put_bytes segments at bytes
-put_bytes_from [] place at bytes d inside has none = absurd (omega (arith, inside))
-put_bytes_from (s ∷ rest) zero at bytes d inside has none = rw has refl
-put_bytes_from (s ∷ rest) (suc place) at bytes d inside has none =
-    let here : has_bytes s at (length bytes) ≡ false = none 0 (omega arith) in
-    rw here (ap (λ others. s ∷ others) (put_bytes_from rest place at bytes d (omega (arith, inside)) has (λ k before. none (suc k) (omega (arith, before)))))
-
--- the segment at the place has the range
-pub has_bytes_at : (segments : List Segment) (place at n : ℕ) (segment : Segment) → position (λ s. has_bytes s at n) segments ≡ Some place → segment ≡ get_or segments place segment → has_bytes segment at n ≡ true
-has_bytes_at segments place at n segment found is =
-    ap (λ s. has_bytes s at n) is ∙ (position-Some (λ s. has_bytes s at n) segments place segment found).1
-
--- the first segment that has the range gets the bytes
-pub put_bytes_at : (segments : List Segment) (place at n : ℕ) (bytes : List ℕ) (segment : Segment) → position (λ s. has_bytes s at n) segments ≡ Some place → length bytes ≡ n → segment ≡ get_or segments place segment
-    → set segments place (with_bytes segment at bytes) ≡ put_bytes segments at bytes
-put_bytes_at segments place at n bytes segment found size is =
-    let found : position (λ s. has_bytes s at (length bytes)) segments ≡ Some place = rw size found in
-    let facts = position-Some (λ s. has_bytes s at (length bytes)) segments place segment found in
-    ap (λ s. set segments place (with_bytes s at bytes)) is ∙ put_bytes_from segments place at bytes segment facts.0 facts.1 facts.2
-
-nowhere-more : (s : Segment) (rest : List Segment) (at : ℕ) (bytes : List ℕ) (has : Bool)
-    → (length rest ≤ position_or_len (λ s. has_bytes s at (length bytes)) rest → put_bytes rest at bytes ≡ rest)
-    → suc (length rest) ≤ cond (not has) (1 + position_or_len (λ s. has_bytes s at (length bytes)) rest) 0
-    → cond has (with_bytes s at bytes ∷ rest) (s ∷ put_bytes rest at bytes) ≡ s ∷ rest
-nowhere-more s rest at bytes true later none = absurd (omega (arith, none))
-nowhere-more s rest at bytes false later none = ap (λ others. s ∷ others) (later (omega (arith, none)))
-
-put_bytes_past : (segments : List Segment) (at : ℕ) (bytes : List ℕ) → length segments ≤ position_or_len (λ s. has_bytes s at (length bytes)) segments → put_bytes segments at bytes ≡ segments
-put_bytes_past [] at bytes none = refl
-put_bytes_past (s ∷ rest) at bytes none = nowhere-more s rest at bytes (has_bytes s at (length bytes)) (put_bytes_past rest at bytes) none
-
--- where no segment has the range, nothing changes
-pub put_bytes_nowhere : (segments : List Segment) (at : ℕ) (bytes : List ℕ) → position (λ s. has_bytes s at (length bytes)) segments ≡ None → put_bytes segments at bytes ≡ segments
-put_bytes_nowhere segments at bytes none = put_bytes_past segments at bytes (grind (arith, nat_tests))
-
--- ---- one byte in each place
-
-pub filled_at : (segments : List Segment) (place at n byte : ℕ) (segment : Segment) → position (λ s. has_bytes s at n) segments ≡ Some place → segment ≡ get_or segments place segment
-    → set segments place (with_bytes segment at (replicate n byte)) ≡ put_bytes segments at (replicate n byte)
-filled_at segments place at n byte segment found is = put_bytes_at segments place at n (replicate n byte) segment found (length-replicate n byte) is
-
-pub filled_nowhere : (segments : List Segment) (at n byte : ℕ) → position (λ s. has_bytes s at n) segments ≡ None → put_bytes segments at (replicate n byte) ≡ segments
-filled_nowhere segments at n byte none =
-    put_bytes_nowhere segments at (replicate n byte) (ap (λ (size : ℕ). position (λ s. has_bytes s at size) segments) (length-replicate n byte) ∙ none)
 
 -- ---- what stays
 

@@ -1,19 +1,18 @@
 -- The totals of segments: what one more segment and one fewer make of them, what a write leaves, and how large they get.
-use Rattle.std.proofs.Common.{◌≡◌, ◌<◌, ◌≤◌, ℕ, ◌+◌, ◌^◌, Bool, true, false, not, nat_eq, nat_lt, cond, List, [], ◌∷◌, length, get_or, refl, ap, subst, sym, ◌∙◌, arith}
-use Rattle.std.specs.Prelude.{insert, remove, if◌then◌else◌}
+use Rattle.std.proofs.Common.{◌≡◌, ◌<◌, ◌≤◌, ℕ, ◌+◌, ◌^◌, Bool, true, false, not, nat_eq, nat_lt, cond, List, [], ◌∷◌, length, Ok, refl, ap, subst, sym, ◌∙◌, arith}
+use Rattle.std.specs.Prelude.{if◌then◌else◌}
 use Rattle.std.specs.List.{list_any, sum_by}
-use Rattle.std.proofs.lemmas.List.Sums.{sum_by-cons, sum_by-insert, sum_by-remove}
+use Rattle.std.proofs.lemmas.List.Sums.{sum_by-cons}
 use Rattle.std.proofs.lemmas.Bool.Decides.{nat_tests}
 use Rattle.byteorder.specs.Endian.{little_bytes}
 use Rattle.guest_memory.specs.Segment.{has_bytes, is_block, with_bytes, extent, end_of, meets}
-use Rattle.guest_memory.specs.GuestMemory.{lie_from, overlaps, put_bytes, written, kind_number, total_of, block_count, is_full, mapped}
-use Rattle.guest_memory.specs.Places.{IsInOrder, IsFirstFrom, IsPlaceOf, totals_of, total_in, with_segment, without_segment, is_full_by}
+use Rattle.guest_memory.specs.GuestMemory.{lie_from, overlaps, put_bytes, written, kind_number, total_of, block_count, mapped, unmapped, beginning_at}
+use Rattle.guest_memory.specs.Totals.{IsInOrder, totals_of, total_in, with_segment, without_segment}
 use Rattle.guest_memory.specs.declared.segment.Segment.{Segment}
 use Rattle.guest_memory.specs.declared.segment.SegKind.{SegKind}
 use Rattle.guest_memory.specs.declared.segment.SegKind.TheVariants.{Image, Pool, Firmware, Stack, Table}
 use Rattle.guest_memory.specs.declared.totals.Totals.{Totals}
 use Rattle.guest_memory.proofs.OrderLemmas.{head_lies}
-use Rattle.guest_memory.proofs.PlaceLemmas.{mapped_where, unmapped_where}
 use Rattle.guest_memory.proofs.PutLemmas.{IgnoresBytes, length-with_bytes, lie_from-put_bytes}
 use Rattle.guest_memory.proofs.SegmentLemmas.{lie_from-mapped_apart, lie_from-unmapped, written-as_bytes}
 
@@ -44,92 +43,103 @@ total_in-of segments Firmware = refl
 total_in-of segments Stack = refl
 total_in-of segments Table = refl
 
-pub is_full_by-of : (segments : List Segment) (kind : SegKind) (size : ℕ) → is_full_by (totals_of segments) kind size ≡ is_full segments kind size
-is_full_by-of segments Image size = refl
-is_full_by-of segments Pool size = refl
-is_full_by-of segments Firmware size = refl
-is_full_by-of segments Stack size = refl
-is_full_by-of segments Table size = refl
-
 -- ---- one more segment
 
-more : (segments : List Segment) (place : ℕ) (new : Segment) (kind : SegKind) → total_of (insert segments place new) kind ≡ total_of segments kind + size_in kind new
-more segments place new kind = sum_by-insert (size_in kind) segments place new
+-- of each sum over the segments
+sum_by-mapped : (f : Segment → ℕ) (new : Segment) (segments : List Segment) → sum_by f (mapped new segments) ≡ sum_by f segments + f new
+sum_by-mapped f new [] = omega (arith, sum_by-cons f new [])
+sum_by-mapped f new (first ∷ segments) = by (nat_lt first.base new.base) (sum_by-mapped f new segments)
+  where
+    by : (below : Bool) → sum_by f (mapped new segments) ≡ sum_by f segments + f new → sum_by f (cond below (first ∷ mapped new segments) (new ∷ first ∷ segments)) ≡ sum_by f (first ∷ segments) + f new
+    by true rest = omega (arith, rest, sum_by-cons f first (mapped new segments), sum_by-cons f first segments)
+    by false rest = omega (arith, sum_by-cons f new (first ∷ segments))
 
-more_blocks : (segments : List Segment) (place : ℕ) (new : Segment) → block_count (insert segments place new) ≡ block_count segments + block_in new
-more_blocks segments place new = sum_by-insert block_in segments place new
+more : (segments : List Segment) (new : Segment) (kind : SegKind) → total_of (mapped new segments) kind ≡ total_of segments kind + size_in kind new
+more segments new kind = sum_by-mapped (size_in kind) new segments
 
-totals_of-insert : (segments : List Segment) (place : ℕ) (base : ℕ) (bytes : List ℕ) (kind : SegKind)
-    → totals_of (insert segments place (record { base = base; bytes = bytes; kind = kind })) ≡ with_segment (totals_of segments) kind (length bytes)
-totals_of-insert segments place base bytes Image =
+more_blocks : (segments : List Segment) (new : Segment) → block_count (mapped new segments) ≡ block_count segments + block_in new
+more_blocks segments new = sum_by-mapped block_in new segments
+
+totals_of-mapped : (segments : List Segment) (base : ℕ) (bytes : List ℕ) (kind : SegKind)
+    → totals_of (mapped (record { base = base; bytes = bytes; kind = kind }) segments) ≡ with_segment (totals_of segments) kind (length bytes)
+totals_of-mapped segments base bytes Image =
     let new : Segment = record { base = base; bytes = bytes; kind = Image } in
-    same_totals (totals_of (insert segments place new)) (with_segment (totals_of segments) Image (length bytes))
-    (more segments place new Image) (omega (arith, more segments place new Pool)) (omega (arith, more segments place new Firmware)) (omega (arith, more segments place new Stack)) (omega (arith, more segments place new Table)) (omega (arith, more_blocks segments place new))
-totals_of-insert segments place base bytes Pool =
+    same_totals (totals_of (mapped new segments)) (with_segment (totals_of segments) Image (length bytes))
+    (more segments new Image) (omega (arith, more segments new Pool)) (omega (arith, more segments new Firmware)) (omega (arith, more segments new Stack)) (omega (arith, more segments new Table)) (omega (arith, more_blocks segments new))
+totals_of-mapped segments base bytes Pool =
     let new : Segment = record { base = base; bytes = bytes; kind = Pool } in
-    same_totals (totals_of (insert segments place new)) (with_segment (totals_of segments) Pool (length bytes))
-    (omega (arith, more segments place new Image)) (more segments place new Pool) (omega (arith, more segments place new Firmware)) (omega (arith, more segments place new Stack)) (omega (arith, more segments place new Table)) (more_blocks segments place new)
-totals_of-insert segments place base bytes Firmware =
+    same_totals (totals_of (mapped new segments)) (with_segment (totals_of segments) Pool (length bytes))
+    (omega (arith, more segments new Image)) (more segments new Pool) (omega (arith, more segments new Firmware)) (omega (arith, more segments new Stack)) (omega (arith, more segments new Table)) (more_blocks segments new)
+totals_of-mapped segments base bytes Firmware =
     let new : Segment = record { base = base; bytes = bytes; kind = Firmware } in
-    same_totals (totals_of (insert segments place new)) (with_segment (totals_of segments) Firmware (length bytes))
-    (omega (arith, more segments place new Image)) (omega (arith, more segments place new Pool)) (more segments place new Firmware) (omega (arith, more segments place new Stack)) (omega (arith, more segments place new Table)) (more_blocks segments place new)
-totals_of-insert segments place base bytes Stack =
+    same_totals (totals_of (mapped new segments)) (with_segment (totals_of segments) Firmware (length bytes))
+    (omega (arith, more segments new Image)) (omega (arith, more segments new Pool)) (more segments new Firmware) (omega (arith, more segments new Stack)) (omega (arith, more segments new Table)) (more_blocks segments new)
+totals_of-mapped segments base bytes Stack =
     let new : Segment = record { base = base; bytes = bytes; kind = Stack } in
-    same_totals (totals_of (insert segments place new)) (with_segment (totals_of segments) Stack (length bytes))
-    (omega (arith, more segments place new Image)) (omega (arith, more segments place new Pool)) (omega (arith, more segments place new Firmware)) (more segments place new Stack) (omega (arith, more segments place new Table)) (omega (arith, more_blocks segments place new))
-totals_of-insert segments place base bytes Table =
+    same_totals (totals_of (mapped new segments)) (with_segment (totals_of segments) Stack (length bytes))
+    (omega (arith, more segments new Image)) (omega (arith, more segments new Pool)) (omega (arith, more segments new Firmware)) (more segments new Stack) (omega (arith, more segments new Table)) (omega (arith, more_blocks segments new))
+totals_of-mapped segments base bytes Table =
     let new : Segment = record { base = base; bytes = bytes; kind = Table } in
-    same_totals (totals_of (insert segments place new)) (with_segment (totals_of segments) Table (length bytes))
-    (omega (arith, more segments place new Image)) (omega (arith, more segments place new Pool)) (omega (arith, more segments place new Firmware)) (omega (arith, more segments place new Stack)) (more segments place new Table) (omega (arith, more_blocks segments place new))
+    same_totals (totals_of (mapped new segments)) (with_segment (totals_of segments) Table (length bytes))
+    (omega (arith, more segments new Image)) (omega (arith, more segments new Pool)) (omega (arith, more segments new Firmware)) (omega (arith, more segments new Stack)) (more segments new Table) (omega (arith, more_blocks segments new))
 
 -- ---- one fewer
 
-fewer : (segments : List Segment) (place : ℕ) (gone : Segment) (kind : SegKind) → place < length segments → get_or segments place gone ≡ gone → total_of (remove segments place) kind + size_in kind gone ≡ total_of segments kind
-fewer segments place gone kind inside here = ap (λ (s : Segment). total_of (remove segments place) kind + size_in kind s) (sym here) ∙ sum_by-remove (size_in kind) segments place gone inside
+sum_by-unmapped : (f : Segment → ℕ) (segments : List Segment) (base : ℕ) (gone : Segment) → beginning_at segments base ≡ Ok gone → sum_by f (unmapped segments base) + f gone ≡ sum_by f segments
+sum_by-unmapped f [] base gone there = absurd cc
+sum_by-unmapped f (first ∷ segments) base gone there = by (nat_eq first.base base) there (sum_by-unmapped f segments base gone)
+  where
+    by : (here : Bool) → cond here (Ok first) (beginning_at segments base) ≡ Ok gone → (beginning_at segments base ≡ Ok gone → sum_by f (unmapped segments base) + f gone ≡ sum_by f segments)
+        → sum_by f (cond here segments (first ∷ unmapped segments base)) + f gone ≡ sum_by f (first ∷ segments)
+    by true there rest = let same : first ≡ gone = cc in omega (arith, sum_by-cons f first segments, ap f same)
+    by false there rest = omega (arith, rest there, sum_by-cons f first (unmapped segments base), sum_by-cons f first segments)
 
-fewer_blocks : (segments : List Segment) (place : ℕ) (gone : Segment) → place < length segments → get_or segments place gone ≡ gone → block_count (remove segments place) + block_in gone ≡ block_count segments
-fewer_blocks segments place gone inside here = ap (λ (s : Segment). block_count (remove segments place) + block_in s) (sym here) ∙ sum_by-remove block_in segments place gone inside
+fewer : (segments : List Segment) (base : ℕ) (gone : Segment) (kind : SegKind) → beginning_at segments base ≡ Ok gone → total_of (unmapped segments base) kind + size_in kind gone ≡ total_of segments kind
+fewer segments base gone kind there = sum_by-unmapped (size_in kind) segments base gone there
 
-totals_of-remove-by : (segments : List Segment) (place : ℕ) (kind : SegKind) (size : ℕ)
-    → total_of (remove segments place) Image + (if nat_eq (kind_number kind) 0 then size else 0) ≡ total_of segments Image
-    → total_of (remove segments place) Pool + (if nat_eq (kind_number kind) 1 then size else 0) ≡ total_of segments Pool
-    → total_of (remove segments place) Firmware + (if nat_eq (kind_number kind) 2 then size else 0) ≡ total_of segments Firmware
-    → total_of (remove segments place) Stack + (if nat_eq (kind_number kind) 3 then size else 0) ≡ total_of segments Stack
-    → total_of (remove segments place) Table + (if nat_eq (kind_number kind) 4 then size else 0) ≡ total_of segments Table
-    → block_count (remove segments place) + cond (is_block kind) 1 0 ≡ block_count segments
-    → totals_of (remove segments place) ≡ without_segment (totals_of segments) kind size
-totals_of-remove-by segments place Image size image pool firmware stack table blocks =
-    same_totals (totals_of (remove segments place)) (without_segment (totals_of segments) Image size)
+fewer_blocks : (segments : List Segment) (base : ℕ) (gone : Segment) → beginning_at segments base ≡ Ok gone → block_count (unmapped segments base) + block_in gone ≡ block_count segments
+fewer_blocks segments base gone there = sum_by-unmapped block_in segments base gone there
+
+totals_of-unmapped-by : (segments : List Segment) (base : ℕ) (kind : SegKind) (size : ℕ)
+    → total_of (unmapped segments base) Image + (if nat_eq (kind_number kind) 0 then size else 0) ≡ total_of segments Image
+    → total_of (unmapped segments base) Pool + (if nat_eq (kind_number kind) 1 then size else 0) ≡ total_of segments Pool
+    → total_of (unmapped segments base) Firmware + (if nat_eq (kind_number kind) 2 then size else 0) ≡ total_of segments Firmware
+    → total_of (unmapped segments base) Stack + (if nat_eq (kind_number kind) 3 then size else 0) ≡ total_of segments Stack
+    → total_of (unmapped segments base) Table + (if nat_eq (kind_number kind) 4 then size else 0) ≡ total_of segments Table
+    → block_count (unmapped segments base) + cond (is_block kind) 1 0 ≡ block_count segments
+    → totals_of (unmapped segments base) ≡ without_segment (totals_of segments) kind size
+totals_of-unmapped-by segments base Image size image pool firmware stack table blocks =
+    same_totals (totals_of (unmapped segments base)) (without_segment (totals_of segments) Image size)
     (omega (arith, image)) (omega (arith, pool)) (omega (arith, firmware)) (omega (arith, stack)) (omega (arith, table)) (omega (arith, blocks))
-totals_of-remove-by segments place Pool size image pool firmware stack table blocks =
-    same_totals (totals_of (remove segments place)) (without_segment (totals_of segments) Pool size)
+totals_of-unmapped-by segments base Pool size image pool firmware stack table blocks =
+    same_totals (totals_of (unmapped segments base)) (without_segment (totals_of segments) Pool size)
     (omega (arith, image)) (omega (arith, pool)) (omega (arith, firmware)) (omega (arith, stack)) (omega (arith, table)) (omega (arith, blocks))
-totals_of-remove-by segments place Firmware size image pool firmware stack table blocks =
-    same_totals (totals_of (remove segments place)) (without_segment (totals_of segments) Firmware size)
+totals_of-unmapped-by segments base Firmware size image pool firmware stack table blocks =
+    same_totals (totals_of (unmapped segments base)) (without_segment (totals_of segments) Firmware size)
     (omega (arith, image)) (omega (arith, pool)) (omega (arith, firmware)) (omega (arith, stack)) (omega (arith, table)) (omega (arith, blocks))
-totals_of-remove-by segments place Stack size image pool firmware stack table blocks =
-    same_totals (totals_of (remove segments place)) (without_segment (totals_of segments) Stack size)
+totals_of-unmapped-by segments base Stack size image pool firmware stack table blocks =
+    same_totals (totals_of (unmapped segments base)) (without_segment (totals_of segments) Stack size)
     (omega (arith, image)) (omega (arith, pool)) (omega (arith, firmware)) (omega (arith, stack)) (omega (arith, table)) (omega (arith, blocks))
-totals_of-remove-by segments place Table size image pool firmware stack table blocks =
-    same_totals (totals_of (remove segments place)) (without_segment (totals_of segments) Table size)
+totals_of-unmapped-by segments base Table size image pool firmware stack table blocks =
+    same_totals (totals_of (unmapped segments base)) (without_segment (totals_of segments) Table size)
     (omega (arith, image)) (omega (arith, pool)) (omega (arith, firmware)) (omega (arith, stack)) (omega (arith, table)) (omega (arith, blocks))
 
-pub totals_of-remove : (segments : List Segment) (place : ℕ) (gone : Segment) → place < length segments → get_or segments place gone ≡ gone → totals_of (remove segments place) ≡ without_segment (totals_of segments) gone.kind (length gone.bytes)
-totals_of-remove segments place gone inside here =
-    totals_of-remove-by segments place gone.kind (length gone.bytes)
-    (fewer segments place gone Image inside here) (fewer segments place gone Pool inside here) (fewer segments place gone Firmware inside here) (fewer segments place gone Stack inside here) (fewer segments place gone Table inside here) (fewer_blocks segments place gone inside here)
+pub totals_of-unmapped : (segments : List Segment) (base : ℕ) (gone : Segment) → beginning_at segments base ≡ Ok gone → totals_of (unmapped segments base) ≡ without_segment (totals_of segments) gone.kind (length gone.bytes)
+totals_of-unmapped segments base gone there =
+    totals_of-unmapped-by segments base gone.kind (length gone.bytes)
+    (fewer segments base gone Image there) (fewer segments base gone Pool there) (fewer segments base gone Firmware there) (fewer segments base gone Stack there) (fewer segments base gone Table there) (fewer_blocks segments base gone there)
 
 -- a segment's bytes are among those of its kind
 own_size : (kind : SegKind) (total rest size : ℕ) → rest + (if nat_eq (kind_number kind) (kind_number kind) then size else 0) ≡ total → size ≤ total
 own_size kind total rest size h = grind (arith, nat_tests, h)
 
-pub size-le-total : (segments : List Segment) (place : ℕ) (gone : Segment) → place < length segments → get_or segments place gone ≡ gone → length gone.bytes ≤ total_of segments gone.kind
-size-le-total segments place gone inside here =
-    own_size gone.kind (total_of segments gone.kind) (total_of (remove segments place) gone.kind) (length gone.bytes) (fewer segments place gone gone.kind inside here)
+pub size-le-total : (segments : List Segment) (base : ℕ) (gone : Segment) → beginning_at segments base ≡ Ok gone → length gone.bytes ≤ total_of segments gone.kind
+size-le-total segments base gone there =
+    own_size gone.kind (total_of segments gone.kind) (total_of (unmapped segments base) gone.kind) (length gone.bytes) (fewer segments base gone gone.kind there)
 
-pub block-counted : (segments : List Segment) (place : ℕ) (gone : Segment) → place < length segments → get_or segments place gone ≡ gone → is_block gone.kind ≡ true → 0 < block_count segments
-block-counted segments place gone inside here is =
-    let split : block_count (remove segments place) + cond (is_block gone.kind) 1 0 ≡ block_count segments = fewer_blocks segments place gone inside here in
+pub block-counted : (segments : List Segment) (base : ℕ) (gone : Segment) → beginning_at segments base ≡ Ok gone → is_block gone.kind ≡ true → 0 < block_count segments
+block-counted segments base gone there is =
+    let split : block_count (unmapped segments base) + cond (is_block gone.kind) 1 0 ≡ block_count segments = fewer_blocks segments base gone there in
     let count : Bool → ℕ = λ b. cond b 1 0 in
     let one : count (is_block gone.kind) ≡ count true = ap count is in
     omega (arith, split, one)
@@ -192,39 +202,32 @@ size_bound base bytes kind range = grind (arith, nat_tests, range)
 
 -- ---- what holds of a memory
 
-pub no_overlap : (segments : List Segment) (new : Segment) → not (nat_lt (2 ^ 63) (end_of new)) ≡ true → list_any (λ other. meets new other) segments ≡ false → overlaps segments new ≡ false
+no_overlap : (segments : List Segment) (new : Segment) → not (nat_lt (2 ^ 63) (end_of new)) ≡ true → list_any (λ other. meets new other) segments ≡ false → overlaps segments new ≡ false
 no_overlap segments new range apart = grind (arith, range, apart)
 
-pub in_order-mapped : (segments : List Segment) (totals : Totals) (place : ℕ) (base : ℕ) (bytes : List ℕ) (kind : SegKind) → IsInOrder segments totals → IsFirstFrom base segments place
-    → overlaps segments (record { base = base; bytes = bytes; kind = kind }) ≡ false
-    → IsInOrder (insert segments place (record { base = base; bytes = bytes; kind = kind })) (with_segment totals kind (length bytes))
-in_order-mapped segments totals place base bytes kind is at room =
-    let new : Segment = record { base = base; bytes = bytes; kind = kind } in
-    record {
-      apart = ap (lie_from 0) (mapped_where new segments place at) ∙ lie_from-mapped_apart new segments is.apart room;
-      sums = ap (λ t. with_segment t kind (length bytes)) is.sums ∙ sym (totals_of-insert segments place base bytes kind);
-    }
+-- one more that ends by 2^63 and meets none lies apart
+pub lie_from-mapped_one : (segments : List Segment) (new : Segment) → lie_from 0 segments ≡ true → not (nat_lt (2 ^ 63) (end_of new)) ≡ true → list_any (λ other. meets new other) segments ≡ false → lie_from 0 (mapped new segments) ≡ true
+lie_from-mapped_one segments new lie range apart = lie_from-mapped_apart new segments lie (no_overlap segments new range apart)
 
--- so does one that was taken out, put back where the segments then lie in order
-pub put_back_size : (segments : List Segment) (place : ℕ) (new : Segment) → IsFirstFrom new.base segments place → lie_from 0 (mapped new segments) ≡ true → length new.bytes ≤ 2 ^ 63
-put_back_size segments place new at lie =
-    let lies : lie_from 0 (insert segments place new) ≡ true = ap (lie_from 0) (mapped_where new segments place at) ∙ lie in
-    let all : total_of (insert segments place new) new.kind ≤ 2 ^ 63 = total_bound (insert segments place new) new.kind lies in
-    let one : length new.bytes ≤ total_of (insert segments place new) new.kind = own_size new.kind (total_of (insert segments place new) new.kind) (total_of segments new.kind) (length new.bytes) (sym (more segments place new new.kind)) in
-    omega (arith, all, one)
-
-pub in_order-put_back : (segments : List Segment) (totals : Totals) (place : ℕ) (new : Segment) → IsInOrder segments totals → IsFirstFrom new.base segments place → lie_from 0 (mapped new segments) ≡ true
-    → IsInOrder (insert segments place new) (with_segment totals new.kind (length new.bytes))
-in_order-put_back segments totals place new is at lie = record {
-  apart = ap (lie_from 0) (mapped_where new segments place at) ∙ lie;
-  sums = ap (λ t. with_segment t new.kind (length new.bytes)) is.sums ∙ sym (totals_of-insert segments place new.base new.bytes new.kind);
+pub in_order-mapped : (segments : List Segment) (totals : Totals) (base : ℕ) (bytes : List ℕ) (kind : SegKind) → IsInOrder segments totals → lie_from 0 (mapped (record { base = base; bytes = bytes; kind = kind }) segments) ≡ true
+    → IsInOrder (mapped (record { base = base; bytes = bytes; kind = kind }) segments) (with_segment totals kind (length bytes))
+in_order-mapped segments totals base bytes kind is lie = record {
+  apart = lie;
+  sums = ap (λ t. with_segment t kind (length bytes)) is.sums ∙ sym (totals_of-mapped segments base bytes kind);
 }
 
-pub in_order-removed : (segments : List Segment) (totals : Totals) (place base : ℕ) (gone : Segment) → IsInOrder segments totals → IsPlaceOf base segments place → get_or segments place gone ≡ gone
-    → IsInOrder (remove segments place) (without_segment totals gone.kind (length gone.bytes))
-in_order-removed segments totals place base gone is at here = record {
-  apart = ap (lie_from 0) (sym (unmapped_where 0 segments base place gone is.apart at.within (at.here gone))) ∙ lie_from-unmapped 0 segments base is.apart;
-  sums = ap (λ t. without_segment t gone.kind (length gone.bytes)) is.sums ∙ sym (totals_of-remove segments place gone at.within here);
+-- so does one that was taken out, put back where the segments then lie in order
+pub put_back_size : (segments : List Segment) (new : Segment) → lie_from 0 (mapped new segments) ≡ true → length new.bytes ≤ 2 ^ 63
+put_back_size segments new lie =
+    let all : total_of (mapped new segments) new.kind ≤ 2 ^ 63 = total_bound (mapped new segments) new.kind lie in
+    let one : length new.bytes ≤ total_of (mapped new segments) new.kind = own_size new.kind (total_of (mapped new segments) new.kind) (total_of segments new.kind) (length new.bytes) (sym (more segments new new.kind)) in
+    omega (arith, all, one)
+
+pub in_order-unmapped : (segments : List Segment) (totals : Totals) (base : ℕ) (gone : Segment) → IsInOrder segments totals → beginning_at segments base ≡ Ok gone
+    → IsInOrder (unmapped segments base) (without_segment totals gone.kind (length gone.bytes))
+in_order-unmapped segments totals base gone is there = record {
+  apart = lie_from-unmapped 0 segments base is.apart;
+  sums = ap (λ t. without_segment t gone.kind (length gone.bytes)) is.sums ∙ sym (totals_of-unmapped segments base gone there);
 }
 
 pub in_order-put_bytes : (segments : List Segment) (totals : Totals) (at : ℕ) (bytes : List ℕ) → IsInOrder segments totals → IsInOrder (put_bytes segments at bytes) totals
@@ -236,6 +239,3 @@ in_order-put_bytes segments totals at bytes is = record {
 pub in_order-answered : (done : Bool) (segments : List Segment) (totals : Totals) (at n value : ℕ) → IsInOrder segments totals → IsInOrder (if done then written segments at n value else segments) totals
 in_order-answered true segments totals at n value is = subst (λ (after : List Segment). IsInOrder after totals) (sym (written-as_bytes segments at n value)) (in_order-put_bytes segments totals at (little_bytes n value) is)
 in_order-answered false segments totals at n value is = is
-
-pub in_order-none : IsInOrder [] (record { image = 0; pool = 0; firmware = 0; stack = 0; table = 0; blocks = 0 })
-in_order-none = record { apart = refl; sums = refl }

@@ -1,4 +1,5 @@
 pub mod Segment
 pub mod GuestMemory
 pub mod Laws
-pub mod Places
+pub mod Totals
+pub mod Segments

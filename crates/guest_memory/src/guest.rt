@@ -1,10 +1,10 @@
 ghost use Rattle.std.specs.Prelude.{◌≡◌, ◌<◌, ◌^◌, ◌++◌, List, IsTrue, IfSome, IsErrOf, is_ok, length, drop, if◌then◌else◌};
 ghost use Rattle.guest_memory.specs.Segment.{is_access};
 ghost use Rattle.guest_memory.specs.GuestMemory.{number_of, write_answer, written, image_code, Gives};
-ghost use Rattle.guest_memory.specs.declared.guest.MemRefusal.TheVariants.{OutOfMemory};
+ghost use Rattle.guest_memory.specs.declared.guest.MemRefusal.TheVariants.{OutOfMemory as NoMemory};
 ghost use Rattle.guest_memory.specs.declared.segment.Segment.{Segment as SegmentValue};
 
-use std::alloc::AllocFailed;
+use fw_types::OutOfMemory;
 use thiserror::Error;
 
 /// Why nothing was written, mapped or unmapped.
@@ -27,10 +27,10 @@ pub enum MemRefusal {
     OutOfMemory,
 }
 
-impl<T: Drop> From<AllocFailed<T>> for MemRefusal {
-    ghost from_gives = { λ _ refusal. refusal ≡ OutOfMemory };
+impl From<OutOfMemory> for MemRefusal {
+    ghost from_gives = { λ _ refusal. refusal ≡ NoMemory };
 
-    fn from(_error: AllocFailed<T>) -> MemRefusal {
+    fn from(_error: OutOfMemory) -> MemRefusal {
         MemRefusal::OutOfMemory
     }
 }

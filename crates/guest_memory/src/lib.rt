@@ -14,8 +14,8 @@ pub mod address_map;
 mod guest;
 pub mod laws;
 mod memory;
-mod places;
 mod segment;
+mod segments;
 mod totals;
 
 pub use guest::{GuestMem, MemRefusal};

@@ -1,12 +1,11 @@
 ghost use Rattle.std.specs.Prelude.{◌≡◌, refl, [], true, IsTrue, OnOk, OnErr, IfOk, is_ok, length, option_map, replicate, if◌then◌else◌};
-ghost use Rattle.guest_memory.specs.Segment.{is_access};
 ghost use Rattle.guest_memory.specs.GuestMemory.{write_answer, written, is_readable, is_writable_range, bytes_of, put_bytes, image_with, lie_from, total_of, block_count, is_full, map_answer, mapped, beginning_at, begins, unmapped, Gives};
-ghost use Rattle.guest_memory.specs.Places.{IsInOrder};
+ghost use Rattle.guest_memory.specs.Totals.{IsInOrder};
 ghost use Rattle.guest_memory.specs.declared.segment.Segment.{Segment as SegmentValue};
 
 use crate::guest::{GuestMem, MemRefusal};
-use crate::places::{holder_of, image_of, meets_any, place_from, place_of, place_with};
 use crate::segment::{SegKind, Segment};
+use crate::segments::Segments;
 use crate::totals::Totals;
 use fw_types::{OutOfMemory, Rows};
 use std::alloc::Global;
@@ -16,11 +15,11 @@ use std::marker::Model;
 /// Segments in order of address, no two of which meet.
 #[derive(Drop)]
 pub struct Memory {
-    segments: Vec<Segment>,
+    segments: Segments,
     totals: Totals,
-    /// The place of the segment that was last read or written. It is no part of the value.
+    /// The key of the segment that was last read or written. It is no part of the value.
     last_data: Cell<usize>,
-    /// The place of the segment from which code was last fetched. It is no part of the value.
+    /// The key of the segment from which code was last fetched. It is no part of the value.
     last_code: Cell<usize>,
 }
 
@@ -30,11 +29,11 @@ impl Model for Memory {
 
     ghost Value = { List SegmentValue };
 
-    ghost view = { λ memory. memory.segments.items };
+    ghost view = { λ memory. memory.segments };
 
-    ghost use Rattle.guest_memory.specs.Places.{IsInOrder};
+    ghost use Rattle.guest_memory.specs.Totals.{IsInOrder};
 
-    ghost invariant = { λ memory. IsInOrder memory.segments.items memory.totals };
+    ghost invariant = { λ memory. IsInOrder memory.segments memory.totals };
 }
 
 impl Memory {
@@ -42,7 +41,7 @@ impl Memory {
     pub fn new(alloc: Global) -> Memory
         ensures { result ≡ [] }
     {
-        Memory::of(Vec::new(alloc), Totals::NONE)
+        Memory::of(Segments::new(alloc), Totals::NONE)
     }
 
     /// Puts a segment in its place by address.
@@ -66,15 +65,14 @@ impl Memory {
             bytes: Rows::of(bytes),
             kind,
         };
-        let place = place_from(self.segments.as_slice(), base);
-        if !segment.is_in_range() || meets_any(self.segments.as_slice(), place, &segment) {
+        if !segment.is_in_range() || self.segments.meets_any(&segment) {
             return Err(MemRefusal::Overlap);
         }
         let size = segment.bytes.as_slice().len() as u64;
         if self.totals.is_full(kind, size) {
             return Err(MemRefusal::Full);
         }
-        self.segments.insert(place, segment)?;
+        self.segments.insert(segment)?;
         self.totals.add(kind, size);
         Ok(())
     }
@@ -90,10 +88,9 @@ impl Memory {
         ensures ok { OnOk result (self.new ≡ mapped segment self.old) }
         ensures err { OnErr result (self.new ≡ self.old) }
     {
-        let place = place_from(self.segments.as_slice(), segment.base);
         let kind = segment.kind;
         let size = segment.bytes.as_slice().len() as u64;
-        self.segments.insert(place, segment)?;
+        self.segments.insert(segment)?;
         self.totals.add(kind, size);
         Ok(())
     }
@@ -107,9 +104,8 @@ impl Memory {
         ensures answer { result ≡ beginning_at self.old base }
         ensures rest { self.new ≡ unmapped self.old base }
     {
-        match place_of(self.segments.as_slice(), base) {
-            Some(place) => {
-                let segment = self.segments.remove(place);
+        match self.segments.remove(base) {
+            Some(segment) => {
                 self.totals
                     .subtract(segment.kind, segment.bytes.as_slice().len() as u64);
                 Ok(segment)
@@ -136,8 +132,8 @@ impl Memory {
     pub fn begins(&self, kind: SegKind, base: u64) -> bool
         ensures { result ≡ begins kind base self.now }
     {
-        match place_of(self.segments.as_slice(), base) {
-            Some(place) => self.segments[place].is_of(kind),
+        match self.segments.beginning(base) {
+            Some(segment) => segment.is_of(kind),
             None => false,
         }
     }
@@ -155,7 +151,9 @@ impl Memory {
     pub fn image_base(&self, at: u64) -> Option<u64>
         ensures { result ≡ option_map (λ (segment : SegmentValue). segment.base) (image_with self.now at) }
     {
-        image_of(self.segments.as_slice(), &self.last_code, at).map(|segment| segment.base)
+        self.segments
+            .image(&self.last_code, at)
+            .map(|segment| segment.base)
     }
 
     /// Whether `n` bytes from an address on can be read: one segment has them all, whatever its
@@ -163,7 +161,7 @@ impl Memory {
     pub fn can_read(&self, at: u64, n: u64) -> bool
         ensures { result ≡ is_readable self.now at n }
     {
-        n == 0 || holder_of(self.segments.as_slice(), &self.last_data, at, n).is_some()
+        n == 0 || self.segments.holder(&self.last_data, at, n).is_some()
     }
 
     /// Whether `n` bytes from an address on can be written: one segment has them all, and a driver
@@ -174,7 +172,7 @@ impl Memory {
         if n == 0 {
             return true;
         }
-        match holder_of(self.segments.as_slice(), &self.last_data, at, n) {
+        match self.segments.holder(&self.last_data, at, n) {
             Some(segment) => segment.kind.is_writable(),
             None => false,
         }
@@ -189,7 +187,7 @@ impl Memory {
         if n == 0 {
             return &[];
         }
-        match holder_of(self.segments.as_slice(), &self.last_data, at, n) {
+        match self.segments.holder(&self.last_data, at, n) {
             Some(segment) => segment.bytes(at, n),
             None => &[],
         }
@@ -201,13 +199,10 @@ impl Memory {
         requires writable { IsTrue (is_writable_range self.old at (length bytes.now)) }
         ensures { self.new ≡ put_bytes self.old at bytes.now }
     {
-        let n = bytes.len() as u64;
-        if n == 0 {
+        if bytes.is_empty() {
             return;
         }
-        if let Some(place) = place_with(self.segments.as_slice(), &self.last_data, at, n) {
-            self.segments[place].put_bytes(at, bytes);
-        }
+        self.segments.put(&self.last_data, at, bytes);
     }
 
     /// Writes a byte `n` times from an address on, where that can be written (`can_write`). Nothing
@@ -219,16 +214,13 @@ impl Memory {
         if n == 0 {
             return;
         }
-        let alloc = *self.segments.allocator();
-        if let Some(place) = place_with(self.segments.as_slice(), &self.last_data, at, n) {
-            self.segments[place].fill(alloc, at, n, byte);
-        }
+        self.segments.fill(&self.last_data, at, n, byte);
     }
 
     /// A memory of segments in order with their totals, of which none was used yet.
-    fn of(segments: Vec<Segment>, totals: Totals) -> Memory
-        requires { IsInOrder segments.items totals }
-        ensures { result ≡ segments.items }
+    fn of(segments: Segments, totals: Totals) -> Memory
+        requires { IsInOrder segments totals }
+        ensures { result ≡ segments }
     {
         Memory {
             segments,
@@ -250,7 +242,7 @@ impl GuestMem for Memory {
 
     #[inline]
     fn read(&self, at: u64, n: u8) -> Option<u64> {
-        match holder_of(self.segments.as_slice(), &self.last_data, at, u64::from(n)) {
+        match self.segments.holder(&self.last_data, at, u64::from(n)) {
             Some(segment) => Some(segment.number(at, n)),
             None => None,
         }
@@ -258,42 +250,14 @@ impl GuestMem for Memory {
 
     #[inline]
     fn write(&mut self, at: u64, n: u8, value: u64) -> Result<(), MemRefusal> {
-        write_in(&mut self.segments, &self.last_data, at, n, value)
+        self.segments.write(&self.last_data, at, n, value)
     }
 
     #[inline]
     fn fetch(&self, at: u64, into: &mut [u8; 18]) -> u8 {
-        match image_of(self.segments.as_slice(), &self.last_code, at) {
+        match self.segments.image(&self.last_code, at) {
             Some(segment) => segment.code(at, into),
             None => 0,
         }
-    }
-}
-
-/// Writes the lowest `n` bytes of a number in the segment that has them all.
-#[inline]
-fn write_in(
-    segments: &mut Vec<Segment>,
-    last: &Cell<usize>,
-    at: u64,
-    n: u8,
-    value: u64,
-) -> Result<(), MemRefusal>
-    requires access { IsTrue (is_access n) }
-    requires apart { IsTrue (lie_from 0 segments.old.items) }
-    ensures answer { result ≡ write_answer segments.old.items at n }
-    ensures bytes { segments.new.items ≡ (if is_ok result
-        then written segments.old.items at n value else segments.old.items) }
-{
-    match place_with(segments.as_slice(), last, at, u64::from(n)) {
-        Some(place) => {
-            let segment = &mut segments[place];
-            if !segment.kind.is_writable() {
-                return Err(MemRefusal::ReadOnly);
-            }
-            segment.put(at, n, value);
-            Ok(())
-        }
-        None => Err(MemRefusal::NoSegment),
     }
 }

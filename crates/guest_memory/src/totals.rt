@@ -1,6 +1,6 @@
 ghost use Rattle.std.specs.Prelude.{◌≡◌, ◌<◌, ◌≤◌, ◌+◌, ◌^◌, ◌||◌, nat_le, nat_lt, if◌then◌else◌, IsTrue};
 ghost use Rattle.guest_memory.specs.Segment.{is_block};
-ghost use Rattle.guest_memory.specs.Places.{is_full_by, total_in, with_segment, without_segment};
+ghost use Rattle.guest_memory.specs.Totals.{is_full_by, total_in, with_segment, without_segment};
 
 use crate::segment::SegKind;
 use fw_types::{MOST_BLOCKS, MOST_BYTES};

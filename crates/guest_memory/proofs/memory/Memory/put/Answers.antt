@@ -1,42 +1,14 @@
-use Rattle.std.proofs.Common.{◌≡◌, List, refl, subst, sym, ap, ◌∙◌, length}
-use Rattle.std.specs.List.{position}
-use Rattle.std.specs.Prelude.{slice_set}
-use Rattle.guest_memory.specs.Segment.{has_bytes}
-use Rattle.guest_memory.specs.GuestMemory.{put_bytes}
-use Rattle.guest_memory.specs.Places.{IsInOrder}
+use Rattle.std.proofs.Common.{List, length, subst, sym, ◌∙◌}
+use Rattle.std.proofs.lemmas.Bool.{eqb-true}
+use Rattle.guest_memory.specs.Totals.{IsInOrder}
 use Rattle.guest_memory.specs.declared.segment.Segment.{Segment}
-use Rattle.guest_memory.proofs.PutLemmas.{has_bytes_at, put_bytes_at, put_bytes_nowhere, put_bytes-empty}
+use Rattle.guest_memory.proofs.PutLemmas.{put_bytes-empty}
 use Rattle.guest_memory.proofs.TotalsLemmas.{in_order-put_bytes}
 use Rattle.guest_memory.proofs.memory.Memory.put.Goals as goal
 
 -- no bytes change nothing
-pub returns-then-n-eq0 : goal.returns-then-n-eq0
-returns-then-n-eq0 c = sym (put_bytes-empty c.args.self.now c.args.at c.args.bytes.now c.if-n-eq0.true)
-
--- the segment at the place has the range
-pub put_bytes-requires : goal.put_bytes-requires
-put_bytes-requires c =
-    let segments = c.self.inside.segments.items in
-    let found = ap (position (λ (s : Segment). has_bytes s c.args.at (length c.args.bytes.now))) (sym c.as_slice.ensures.value) ∙ sym c.place_with.ensures ∙ c.in-Some.is in
-    record { inside = has_bytes_at segments c.in-Some.place c.args.at (length c.args.bytes.now) c.index_mut.result.now found c.index_mut.ensures.value }
-
--- it gets the bytes
-placed : (c : goal.After-self-1) → slice_set c.self.inside.segments.items c.in-Some.place c.put_bytes.new.self ≡ put_bytes c.self.inside.segments.items c.args.at c.args.bytes.now
-placed c =
-    let segments = c.self.inside.segments.items in
-    let found = ap (position (λ (s : Segment). has_bytes s c.args.at (length c.args.bytes.now))) (sym c.as_slice.ensures.value) ∙ sym c.place_with.ensures ∙ c.in-Some.is in
-    ap (slice_set segments c.in-Some.place) c.put_bytes.ensures
-    ∙ put_bytes_at segments c.in-Some.place c.args.at (length c.args.bytes.now) c.args.bytes.now c.index_mut.result.now found refl c.index_mut.ensures.value
+pub returns-then-is_empty : goal.returns-then-is_empty
+returns-then-is_empty c = sym (put_bytes-empty c.args.self.now c.args.at c.args.bytes.now (eqb-true (length c.args.bytes.now) 0 (sym c.is_empty.ensures ∙ c.if-is_empty.true)))
 
 pub invariant_of-self : goal.invariant_of-self
-invariant_of-self c =
-    subst (λ (after : List Segment). IsInOrder after c.self.inside.totals) (sym (placed c)) (in_order-put_bytes c.self.inside.segments.items c.self.inside.totals c.args.at c.args.bytes.now c.self.invariant)
-
-pub returns-in-Some : goal.returns-in-Some
-returns-in-Some c = placed c ∙ ap (λ (segments : List Segment). put_bytes segments c.args.at c.args.bytes.now) c.self.view_is
-
--- no segment has the range
-pub returns-in_default : goal.returns-in_default
-returns-in_default c =
-    let none = ap (position (λ (s : Segment). has_bytes s c.args.at (length c.args.bytes.now))) (sym c.self.view_is ∙ sym c.as_slice.ensures.value) ∙ sym c.place_with.ensures ∙ c.in_default.is in
-    sym (put_bytes_nowhere c.args.self.now c.args.at c.args.bytes.now none)
+invariant_of-self c = subst (λ (s : List Segment). IsInOrder s c.self.inside.totals) (sym c.put.ensures) (in_order-put_bytes c.self.inside.segments c.self.inside.totals c.args.at c.args.bytes.now c.self.invariant)

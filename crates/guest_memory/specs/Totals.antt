@@ -1,28 +1,11 @@
--- Segments by their places in order, as the code reaches them, and what the code keeps of them.
-use Rattle.std.specs.Prelude.{◌≡◌, ℕ, ◌+◌, ◌-◌, ◌<◌, ◌≤◌, Bool, true, false, ◌||◌, nat_le, nat_lt, List, length, slice_index_or}
+-- What the code keeps of segments beside them: how many bytes those of each kind have, and how many blocks there are.
+use Rattle.std.specs.Prelude.{◌≡◌, ℕ, ◌+◌, ◌-◌, Bool, true, false, ◌||◌, nat_le, nat_lt, List}
 use Rattle.fw_types.specs.declared.limits.TheConstants.{MOST_BYTES, MOST_BLOCKS}
 use Rattle.guest_memory.specs.GuestMemory.{lie_from, total_of, block_count}
 use Rattle.guest_memory.specs.declared.segment.Segment.{Segment}
 use Rattle.guest_memory.specs.declared.segment.SegKind.{SegKind}
 use Rattle.guest_memory.specs.declared.segment.SegKind.TheVariants.{Image, Pool, Firmware, Stack, Table}
 use Rattle.guest_memory.specs.declared.totals.Totals.{Totals}
-
--- the place of the first segment that begins at an address or above it
-pub record IsFirstFrom (at : ℕ) (segments : List Segment) (place : ℕ) : Type 0 where
-  pub within : place ≤ length segments
-  pub before : (k : ℕ) (d : Segment) → k < place → (slice_index_or segments k d).base < at
-  pub after : (k : ℕ) (d : Segment) → place ≤ k → k < length segments → at ≤ (slice_index_or segments k d).base
-
--- the place of the first segment that begins above an address
-pub record IsFirstAbove (at : ℕ) (segments : List Segment) (place : ℕ) : Type 0 where
-  pub within : place ≤ length segments
-  pub before : (k : ℕ) (d : Segment) → k < place → (slice_index_or segments k d).base ≤ at
-  pub after : (k : ℕ) (d : Segment) → place ≤ k → k < length segments → at < (slice_index_or segments k d).base
-
--- the place of a segment that begins at an address
-pub record IsPlaceOf (base : ℕ) (segments : List Segment) (place : ℕ) : Type 0 where
-  pub within : place < length segments
-  pub here : (d : Segment) → (slice_index_or segments place d).base ≡ base
 
 -- how many bytes the segments of each kind have, and how many blocks there are
 abbrev pub totals_of : List Segment → Totals
