@@ -2,9 +2,9 @@
 //!
 //! `GuestMem` is memory as a driver uses it, by what a contract sees of it: the list of its segments.
 //! `Memory` is such a memory. Segments are mapped into it and unmapped, and it gives and takes whole
-//! ranges of bytes. It keeps its segments in a vector by rising address (`places`) and their totals as
-//! numbers (`totals`), so that no call takes longer because there are many segments; only `map` and
-//! `unmap` move those after the one that comes or goes.
+//! ranges of bytes. Each segment stands under a key, with a map from the addresses at which segments begin
+//! to their keys (`segments`), and their totals are numbers (`totals`). So no call moves a segment because
+//! there are others, and one that looks for an address takes time in the logarithm of how many there are.
 //!
 //! `address_map` is the map of the addresses that drivers use, and `laws` states what holds of every
 //! memory in the words of reads and writes.
