@@ -209,7 +209,7 @@ head_of_filter p q x l (z ∷ zs) is none =
       | inr fails ↦ head_of_filter p q x l zs (rw fails at is) parts.1
     ]
 
-neither : (o : Ordering) → is_lt o ≡ false → is_gt o ≡ false → is_eq o ≡ true
+pub neither : (o : Ordering) → is_lt o ≡ false → is_gt o ≡ false → is_eq o ≡ true
 neither Less lt gt = absurd cc
 neither Equal lt gt = refl
 neither Greater lt gt = absurd cc

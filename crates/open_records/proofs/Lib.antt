@@ -19,3 +19,7 @@ pub mod PlaceLemmas
 pub mod PuttingBackLemmas
 pub mod CountingBackLemmas
 pub mod WalkLemmas
+pub mod AskedLemmas
+pub mod TakingLemmas
+pub mod AskedOnLemmas
+pub mod GoingLemmas

@@ -1,18 +1,22 @@
 -- The lists of keys, as maps.
-use Rattle.std.proofs.Common.{drop, take, insert, ◌≡◌, ◌<◌, ℕ, true, false, arith, length, length-append, nat_lt, List, [], ◌∷◌, Option, Some, None, refl, sym, ap, ◌∙◌, inl, inr, IsSome, Vec, Result, Ok, Err, OnErr, if◌then◌else◌}
+use Rattle.std.proofs.Common.{drop, take, insert, ◌≡◌, ◌<◌, ℕ, zero, suc, true, false, not, nat_eq, filter, find, cond, is_some, MatchOption, arith, length, length-append, nat_lt, List, [], ◌∷◌, Option, Some, None, refl, sym, ap, ◌∙◌, inl, inr, IsSome, Vec, Result, Ok, Err, OnErr, if◌then◌else◌}
 use Rattle.std.specs.declared.alloc.Global.{Global}
 use Rattle.std.specs.declared.cmp.Ordering.{Ordering}
 use Rattle.std.specs.declared.cmp.Ordering.TheVariants.{Less, Equal, Greater}
-use Rattle.std.specs.List.{AllByRecursion, list_all}
+use Rattle.std.specs.List.{AllByRecursion, list_all, position, position_or_len, remove, slice_get}
 use Rattle.std.specs.List.Sorted.{IsStrictlySortedBy}
 use Rattle.std.specs.Map.{keys_of, lookup}
 use Rattle.std.specs.Ordering.{is_gt, is_lt}
 use Rattle.std.specs.BTreeMap as tree
-use Rattle.std.proofs.lemmas.Bool.{and_from, both_ways, cases_Bool, false_from_ne_true, lt-ltb}
+use Rattle.std.proofs.lemmas.Bool.{and_from, and_parts, both_ways, cases_Bool, eqb-true, eq-eqb, false_from_ne_true, lt-ltb, not-true, or_parts}
+use Rattle.std.proofs.lemmas.Bool.Decides.{nat_tests}
+use Rattle.std.proofs.lemmas.List.Folds.{find_at}
 use Rattle.open_records.proofs.Order.{flipped}
 use Rattle.std.proofs.lemmas.Map.Keys.{sorted_head, sorted_tail}
-use Rattle.open_records.specs.Flat.{AllFilled, Lists, ascend, has_list, is_filled, keys_at, keys_in}
+use Rattle.open_records.specs.Flat.{AllFilled, Lists, ascend, each_once, has_key, has_list, is_filled, keys_at, keys_in, present}
 use Rattle.open_records.specs.Store.{Interface, interface_cmp}
+use Rattle.open_records.specs.declared.open_record.KeyedRecord.{KeyedRecord}
+use Rattle.slab.specs.Slab.{Slab, get}
 use Rattle.open_records.proofs.StoreLemmas.{exact_interface, is_equal_by}
 
 below_all : (k : Interface) (es : List (Interface × Vec ℕ Global)) → AllByRecursion (λ y. interface_cmp k y ≡ Less) (keys_of es) → list_all (λ (later : Interface × Vec ℕ Global). is_lt (interface_cmp k later.0)) es ≡ true
@@ -110,3 +114,71 @@ is_less Greater is = absurd cc
 pub none_before_least : (lists : Lists) (interface other : Interface) → (IsSome (tree.get interface_cmp lists other) → is_gt (interface_cmp interface other) ≡ false) → is_lt (interface_cmp other interface) ≡ true → has_list lists other ≡ false
 none_before_least lists interface other least before =
     false_from_ne_true (has_list lists other) (λ has. both_ways (is_gt (interface_cmp interface other)) (least has) (sym (flipped other interface) ∙ before))
+
+-- ---- a key among others
+
+pub among_from : (key place : ℕ) (keys : List ℕ) → slice_get keys place ≡ Some key → has_key key keys ≡ true
+among_from key place [] is = absurd cc
+among_from key zero (k ∷ keys) is = let same : k ≡ key = cc in rw (eq-eqb key k (sym same)) refl
+among_from key (suc place) (k ∷ keys) is = elim (cases_Bool (nat_eq key k)) [ inl same ↦ rw same refl | inr differs ↦ rw differs (among_from key place keys is) ]
+
+-- without a key that is not there
+pub without_absent : (key : ℕ) (keys : List ℕ) → has_key key keys ≡ false → keys ≡ filter (λ other. not (nat_eq key other)) keys
+without_absent key [] absent = refl
+without_absent key (k ∷ keys) absent =
+    let parts = or_parts (nat_eq key k) (has_key key keys) absent in
+    rw parts.0 (ap (λ l. k ∷ l) (without_absent key keys parts.1))
+
+-- a key at a place, where no key is twice
+pub without_at : (key place : ℕ) (keys : List ℕ) → slice_get keys place ≡ Some key → each_once keys ≡ true → remove keys place ≡ filter (λ other. not (nat_eq key other)) keys
+without_at key place [] is once = absurd cc
+without_at key zero (k ∷ keys) is once =
+    let same : k ≡ key = cc in
+    let parts = and_parts (not (has_key k keys)) (each_once keys) once in
+    let absent : has_key key keys ≡ false = ap (λ n. has_key n keys) (sym same) ∙ not-true (has_key k keys) parts.0 in
+    rw (eq-eqb key k (sym same)) (without_absent key keys absent)
+without_at key (suc place) (k ∷ keys) is once =
+    let parts = and_parts (not (has_key k keys)) (each_once keys) once in
+    let differs : nat_eq key k ≡ false =
+    false_from_ne_true (nat_eq key k) (λ same. both_ways (has_key k keys) (not-true (has_key k keys) parts.0) (ap (λ n. has_key n keys) (sym (eqb-true key k same)) ∙ among_from key place keys is)) in
+    rw differs (ap (λ l. k ∷ l) (without_at key place keys is parts.1))
+
+-- where only the record under a key is gone
+pub kept_one : (records : Slab KeyedRecord) (gone : ℕ) (keys : List ℕ) → ((key : ℕ) → has_key key keys ≡ true → is_some (get records key) ≡ not (nat_eq gone key)) → filter (λ key. not (nat_eq gone key)) keys ≡ present records keys
+kept_one records gone [] lost = refl
+kept_one records gone (k ∷ keys) lost =
+    let here = lost k (rw (eq-eqb k k refl) refl) in
+    let rest = kept_one records gone keys (λ key among. lost key (elim (cases_Bool (nat_eq key k)) [ inl same ↦ rw same refl | inr differs ↦ rw differs among ])) in
+    elim (cases_Bool (nat_eq gone k)) [
+      | inl same ↦ let out : is_some (get records k) ≡ false = here ∙ ap not same in rw (same, out) rest
+      | inr differs ↦ let stays : is_some (get records k) ≡ true = here ∙ ap not differs in rw (differs, stays) (ap (λ l. k ∷ l) rest)
+    ]
+
+-- the first place of a key
+find_key : (key : ℕ) (keys : List ℕ) → find (nat_eq key) keys ≡ (if has_key key keys then Some key else None)
+find_key key [] = refl
+find_key key (k ∷ keys) = elim (cases_Bool (nat_eq key k)) [
+  | inl same ↦ let is : k ≡ key = sym (eqb-true key k same) in rw same (ap Some is)
+  | inr differs ↦ rw differs (find_key key keys)
+]
+
+pub get-lt : (keys : List ℕ) (n key : ℕ) → slice_get keys n ≡ Some key → n < length keys
+get-lt [] n key is = absurd cc
+get-lt (k ∷ keys) zero key is = omega arith
+get-lt (k ∷ keys) (suc n) key is = let later = get-lt keys n key is in omega arith
+
+get-ge : (keys : List ℕ) (n : ℕ) → slice_get keys n ≡ None → nat_lt n (length keys) ≡ false
+get-ge [] n is = grind (arith, nat_tests)
+get-ge (k ∷ keys) zero is = absurd cc
+get-ge (k ∷ keys) (suc n) is = let later = get-ge keys n is in grind (arith, nat_tests)
+
+pub place_found : (key : ℕ) (keys : List ℕ) → MatchOption (position (nat_eq key) keys) (has_key key keys ≡ false) (λ place. slice_get keys place ≡ Some key)
+place_found key keys = elim (cases_Bool (has_key key keys)) [
+  | inl among ↦
+      let is : slice_get keys (position_or_len (nat_eq key) keys) ≡ Some key = sym (find_at (nat_eq key) keys) ∙ find_key key keys ∙ ap (λ b. cond b (Some key) None) among in
+      let within : nat_lt (position_or_len (nat_eq key) keys) (length keys) ≡ true = lt-ltb (position_or_len (nat_eq key) keys) (length keys) (get-lt keys (position_or_len (nat_eq key) keys) key is) in
+      rw within is
+  | inr absent ↦
+      let is : slice_get keys (position_or_len (nat_eq key) keys) ≡ None = sym (find_at (nat_eq key) keys) ∙ find_key key keys ∙ ap (λ b. cond b (Some key) None) absent in
+      rw (get-ge keys (position_or_len (nat_eq key) keys) is) absent
+]

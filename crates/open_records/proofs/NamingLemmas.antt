@@ -18,23 +18,23 @@ use Rattle.open_records.proofs.StoreLemmas.{exact_interface}
 
 -- ---- among the entries of an index
 
-gt-then : (o p : Ordering) → is_gt o ≡ false → is_gt p ≡ false → is_gt (ordering_then o p) ≡ false
+pub gt-then : (o p : Ordering) → is_gt o ≡ false → is_gt p ≡ false → is_gt (ordering_then o p) ≡ false
 gt-then Less p first second = refl
 gt-then Equal p first second = second
 gt-then Greater p first second = absurd cc
 
-gt-first : (o p : Ordering) → is_gt (ordering_then o p) ≡ false → is_gt o ≡ false
+pub gt-first : (o p : Ordering) → is_gt (ordering_then o p) ≡ false → is_gt o ≡ false
 gt-first Less p low = refl
 gt-first Equal p low = refl
 gt-first Greater p low = low
 
-cmp-self : (n : ℕ) → nat_cmp n n ≡ Equal
+pub cmp-self : (n : ℕ) → nat_cmp n n ≡ Equal
 cmp-self n = grind (arith, nat_tests)
 
-zero_least : (n : ℕ) → is_gt (nat_cmp 0 n) ≡ false
+pub zero_least : (n : ℕ) → is_gt (nat_cmp 0 n) ≡ false
 zero_least n = grind (arith, nat_tests)
 
-between : (n m : ℕ) → is_gt (nat_cmp n m) ≡ false → is_gt (nat_cmp m n) ≡ false → n ≡ m
+pub between : (n m : ℕ) → is_gt (nat_cmp n m) ≡ false → is_gt (nat_cmp m n) ≡ false → n ≡ m
 between n m low high = grind (arith, nat_tests)
 
 from_flip : (interface from : Interface) → is_lt (interface_cmp interface from) ≡ false → is_gt (interface_cmp from interface) ≡ false

@@ -62,6 +62,11 @@ pub record IsListed (records : Slab KeyedRecord) (lists : Lists) : Type 0 where
 abbrev pub present : Slab KeyedRecord → List ℕ → List ℕ
 present records keys = filter (λ key. is_some (get records key)) keys
 
+-- Of the records under some keys only the one under a given key is gone; or, if no key is given, any may be.
+abbrev pub IsLost : Option ℕ → Slab KeyedRecord → List ℕ → Type 0
+IsLost None records keys = Unit {0}
+IsLost (Some gone) records keys = (each_once keys ≡ true) × ((key : ℕ) → has_key key keys ≡ true → is_some (get records key) ≡ not (nat_eq gone key))
+
 -- ---- one interface after another
 
 -- whether there is a list

@@ -1,3 +1,4 @@
+pub mod Asking
 pub mod OpenRecords
 pub mod Verdicts
 pub mod Adding

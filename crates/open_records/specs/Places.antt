@@ -1,8 +1,10 @@
 -- Records by their places, as the code reaches them.
-use Rattle.std.specs.Prelude.{Bool, ℕ, nat_eq, List, [], ◌∷◌, ◌++◌, map, if◌then◌else◌}
+use Rattle.std.specs.Prelude.{◌≡◌, Bool, ℕ, nat_eq, List, [], ◌∷◌, ◌++◌, map, if◌then◌else◌}
 use Rattle.std.specs.List.{list_any}
 use Rattle.open_records.specs.Leaving.{with_places_from}
 use Rattle.open_records.specs.PuttingBack.{Gone}
+use Rattle.open_records.specs.declared.going.Going.{Going}
+use Rattle.open_records.specs.declared.going.Going.TheVariants.{Many, Nothing, One}
 use Rattle.open_records.specs.declared.open_record.KeyedRecord.{KeyedRecord}
 use Rattle.open_records.specs.declared.open_record.Rec.{Rec}
 
@@ -22,3 +24,9 @@ with_number number found = if list_any (λ other. nat_eq other number) found the
 abbrev pub joined : List ℕ → List ℕ → List ℕ
 joined found [] = found
 joined found (number ∷ numbers) = joined (with_number number found) numbers
+
+-- what is known of the records of a list that go, each with its place
+abbrev pub IsGoing : Going → List (ℕ × Rec) → Type 0
+IsGoing Nothing going = going ≡ []
+IsGoing (One place rec) going = going ≡ (place, rec) ∷ []
+IsGoing Many going = Unit {0}

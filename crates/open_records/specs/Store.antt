@@ -1,14 +1,19 @@
 -- The records under their keys, and the indexes that find the keys.
-use Rattle.std.specs.Prelude.{◌≡◌, ℕ, Bool, true, false, ◌&&◌, not, nat_eq, List, Option, Some, None, if◌then◌else◌}
+use Rattle.std.specs.Prelude.{◌≡◌, ℕ, Bool, true, false, ◌&&◌, not, nat_eq, bytes_eq, List, Option, Some, None, unwrap_or, if◌then◌else◌}
 use Rattle.std.specs.declared.cmp.Ordering.{Ordering}
 use Rattle.std.specs.Ordering.{is_lt, nat_cmp, ordering_then}
 use Rattle.std.specs.BTreeMap as tree
 use Rattle.std.specs.BTreeSet as set
 use Rattle.slab.specs.Slab.{Slab, get}
-use Rattle.open_records.specs.Leaving.{is_named}
+use Rattle.std.specs.declared.ops.Bound.TheVariants.{Included, Unbounded}
+use Rattle.std.specs.List.{take_while}
+use Rattle.std.specs.BTreeMap.Range.{entries_between}
+use Rattle.fw_types.specs.Attr.{has_bit_of}
+use Rattle.open_records.specs.Leaving.{fits, is_meant, is_named}
 use Rattle.open_records.specs.OpenRecords.{interface_order, is_before, is_equal, is_of, is_strong}
 use Rattle.open_records.specs.declared.open_record.KeyedRecord.{KeyedRecord}
 use Rattle.open_records.specs.declared.indexes.Indexes.{Indexes}
+use Rattle.open_records.specs.declared.indexes.Query.{Query}
 
 -- ---- what the indexes are by
 
@@ -65,6 +70,11 @@ is_holder interface one = is_on interface one && is_strong one.rec
 abbrev pub is_named_from : ℕ → Interface → KeyedRecord → Bool
 is_named_from name from one = is_named name one.rec && not (is_before from.0 from.1 one)
 
+-- whether a record is equal to another, if there is one, in interface, agent, controller and attribute
+abbrev pub is_twin : Option KeyedRecord → KeyedRecord → Bool
+is_twin None other = false
+is_twin (Some one) other = is_open (open_of one) other
+
 -- ---- keys
 
 -- whether there is a record that passes a test
@@ -104,6 +114,44 @@ earlier (Some one) (Some other) = if is_lt (interface_cmp other one) then Some o
 -- a record with another count
 abbrev pub recounted : ℕ → KeyedRecord → KeyedRecord
 recounted count one = record one { rec = record one.rec { count = count } }
+
+-- ---- what is asked for
+
+-- whether an open is of a query's interface and agent, and for its controller if it has one
+abbrev pub is_covered : Query → Open → Bool
+is_covered query opened =
+    (nat_eq opened.0.0 query.interface.0 && bytes_eq opened.0.1 query.interface.1) && (nat_eq opened.1.0 query.agent && fits query.controller opened.1.1)
+
+-- whether a record is asked for: it is of the query's interface and agent, and for its controller if it has one, and
+-- has one of its bits
+abbrev pub is_asked : Query → KeyedRecord → Bool
+is_asked query one = is_on query.interface one && is_meant (Some query.agent) query.controller query.bits one.rec
+
+-- whether a key is skipped
+abbrev pub is_skipped : Option ℕ → ℕ → Bool
+is_skipped None key = false
+is_skipped (Some skipped) key = nat_eq skipped key
+
+-- no record is asked for, except one under a key that is skipped
+abbrev pub NoneAsked : Query → Option ℕ → Slab KeyedRecord → Type 0
+NoneAsked query skipped records = (key : ℕ) → is_skipped skipped key ≡ false → holds (is_asked query) (get records key) ≡ false
+
+-- the record under a key is asked for, and the key is not skipped
+pub record IsAsked (query : Query) (skipped : Option ℕ) (key : ℕ) (records : Slab KeyedRecord) : Type 0 where
+  pub asked : holds (is_asked query) (get records key) ≡ true
+  pub other : is_skipped skipped key ≡ false
+
+-- no open that a query covers comes before this one
+abbrev pub lowest : Query → Open
+lowest query = (query.interface, (query.agent, unwrap_or query.controller 0, 0))
+
+-- the opens from there on, as far as the query covers them, with their keys
+abbrev pub opens_from : Query → tree.BTreeMap Open ℕ → List (Open × ℕ)
+opens_from query opens = take_while (λ (e : Open × ℕ). is_covered query e.0) (entries_between open_cmp (Included (lowest query)) Unbounded opens.entries)
+
+-- whether such an open has one of the query's bits, and its key is not skipped
+abbrev pub is_hit : Query → Option ℕ → Open × ℕ → Bool
+is_hit query skipped e = has_bit_of query.bits e.0.1.2 && not (is_skipped skipped e.1)
 
 -- ---- the indexes
 

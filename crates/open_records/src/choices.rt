@@ -1,10 +1,11 @@
 //! Tests of records.
 ghost use Rattle.std.specs.Prelude.{◌≡◌, Bool, ◌&&◌, nat_eq, not};
 ghost use Rattle.open_records.specs.Leaving.{is_meant};
-ghost use Rattle.open_records.specs.OpenRecords.{is_equal};
+ghost use Rattle.open_records.specs.Asking.{asked_on};
 ghost use Rattle.open_records.specs.Parties.{are_parties_live, belongs_to, is_none_or_live, is_use_of};
 ghost use Rattle.open_records.specs.declared.open_record.KeyedRecord.{KeyedRecord as KeyedValue};
 
+use crate::indexes::{Interface, Query};
 use crate::open_record::KeyedRecord;
 use fw_types::{Attr, Guid, Handle};
 use handle_db::Db;
@@ -27,27 +28,28 @@ pub struct Meant {
     pub bits: u32,
 }
 
+impl Meant {
+    /// The query for those of an interface, if an agent is given.
+    pub(crate) fn asked_on(&self, interface: Interface) -> Option<Query>
+        ensures { result ≡ asked_on interface self.now }
+    {
+        match self.agent {
+            None => None,
+            Some(agent) => Some(Query {
+                interface,
+                agent,
+                controller: self.controller,
+                bits: self.bits,
+            }),
+        }
+    }
+}
+
 impl Test for Meant {
     ghost chosen = { λ meant one. is_meant meant.agent meant.controller meant.bits one.rec };
 
     fn chooses(&self, one: &KeyedRecord) -> bool {
         one.rec.is_meant(self.agent, self.controller, self.bits)
-    }
-}
-
-/// The records of an agent for a controller with an attribute.
-#[derive(Clone, Copy)]
-pub struct Equal {
-    pub agent: u64,
-    pub controller: u64,
-    pub attr: Attr,
-}
-
-impl Test for Equal {
-    ghost chosen = { λ equal one. is_equal equal.agent equal.controller equal.attr one.rec };
-
-    fn chooses(&self, one: &KeyedRecord) -> bool {
-        one.rec.is_equal(self.agent, self.controller, self.attr)
     }
 }
 

@@ -1,11 +1,12 @@
 //! The lists of records that go, each record with its place.
-ghost use Rattle.std.specs.Prelude.{◌≡◌, ◌<◌, ◌^◌, ◌++◌, length, true, IfOk, OnOk};
+ghost use Rattle.std.specs.Prelude.{◌≡◌, ◌<◌, ◌^◌, ◌++◌, ◌∷◌, [], length, true, IfOk, OnOk};
 ghost use Rattle.open_records.specs.Leaving.{is_meant, with_places};
 ghost use Rattle.open_records.specs.OpenRecords.{records_of, rise};
 ghost use Rattle.open_records.specs.Places.{places_on};
 ghost use Rattle.open_records.specs.PuttingBack.{gone_by, picks};
 
 use crate::choices::{Meant, Test};
+use crate::going::Going;
 use crate::open_record::{KeyedRecord, Rec};
 use crate::table::Table;
 use crate::undoing::{Choice, Gone};
@@ -32,8 +33,33 @@ pub fn meant_among(
     Ok(found)
 }
 
-/// Those of an interface's records that are meant, each with its place. Walks over the records only if one
-/// is.
+/// The same, of the interface's records as they stand.
+fn meant_listed(
+    alloc: Global,
+    table: &Table,
+    handle: Handle,
+    guid: Guid,
+    meant: &Meant,
+) -> Result<Vec<(u32, Rec)>, OutOfMemory>
+    requires { length table.now < 2 ^ 32 }
+    ensures { let test = is_meant meant.now.agent meant.now.controller meant.now.bits in
+        IfOk result (λ found. found.items ≡ with_places test (records_of table.now handle guid)) }
+{
+    let mine = table.list(handle, guid)?;
+    meant_among(alloc, mine.as_slice(), meant)
+}
+
+/// A list of one record with its place.
+fn only(alloc: Global, place: u32, rec: Rec) -> Result<Vec<(u32, Rec)>, OutOfMemory>
+    ensures { IfOk result (λ found. found.items ≡ (place, rec) ∷ []) }
+{
+    let mut found = Vec::new(alloc);
+    found.push((place, rec))?;
+    Ok(found)
+}
+
+/// Those of an interface's records that are meant, each with its place. Walks over the records only if more
+/// than one is.
 pub fn meant_in(
     alloc: Global,
     table: &Table,
@@ -45,11 +71,11 @@ pub fn meant_in(
     ensures { let test = is_meant meant.now.agent meant.now.controller meant.now.bits in
         IfOk result (λ found. found.items ≡ with_places test (records_of table.now handle guid)) }
 {
-    if !table.has_meant(handle, guid, meant) {
-        return Ok(Vec::new(alloc));
+    match table.going(handle, guid, meant) {
+        Going::Nothing => Ok(Vec::new(alloc)),
+        Going::One(place, rec) => only(alloc, place, rec),
+        Going::Many => meant_listed(alloc, table, handle, guid, meant),
     }
-    let mine = table.list(handle, guid)?;
-    meant_among(alloc, mine.as_slice(), meant)
 }
 
 /// Puts those of an interface's records that a choice picks after others, each with its interface and its
@@ -77,6 +103,45 @@ fn push_gone(
     Ok(())
 }
 
+/// The same, of the interface's records as they stand.
+fn push_listed(
+    found: &mut Vec<Gone>,
+    table: &Table,
+    choice: &Choice,
+    handle: Handle,
+    guid: Guid,
+) -> Result<(), OutOfMemory>
+    requires { length table.now < 2 ^ 32 }
+    ensures { OnOk result (found.new.items ≡ found.old.items ++ places_on handle guid (picks choice.now) (records_of table.now handle guid)) }
+{
+    let mine = table.list(handle, guid)?;
+    push_gone(found, handle, guid, mine.as_slice(), choice)
+}
+
+/// The same, with a walk over the records only if more than one may be picked.
+fn push_picked(
+    found: &mut Vec<Gone>,
+    table: &Table,
+    choice: &Choice,
+    handle: Handle,
+    guid: Guid,
+) -> Result<(), OutOfMemory>
+    requires { length table.now < 2 ^ 32 }
+    ensures { OnOk result (found.new.items ≡ found.old.items ++ places_on handle guid (picks choice.now) (records_of table.now handle guid)) }
+{
+    let Some(meant) = choice.meant_on(handle, guid) else {
+        return push_listed(found, table, choice, handle, guid);
+    };
+    match table.going(handle, guid, &meant) {
+        Going::Nothing => Ok(()),
+        Going::One(place, rec) => {
+            found.push((handle, guid, place, rec))?;
+            Ok(())
+        }
+        Going::Many => push_listed(found, table, choice, handle, guid),
+    }
+}
+
 /// The records that a choice picks, each with its interface and its place among the records of that
 /// interface.
 pub fn gone_in(alloc: Global, table: &Table, choice: &Choice) -> Result<Vec<Gone>, OutOfMemory>
@@ -91,8 +156,7 @@ pub fn gone_in(alloc: Global, table: &Table, choice: &Choice) -> Result<Vec<Gone
             return Ok(found);
         };
         let (handle, guid) = interface;
-        let mine = table.list(handle, guid)?;
-        push_gone(&mut found, handle, guid, mine.as_slice(), choice)?;
+        push_picked(&mut found, table, choice, handle, guid)?;
         at = table.after(handle, guid);
     }
     Ok(found)

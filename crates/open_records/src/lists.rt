@@ -1,8 +1,8 @@
 //! The lists of keys, one for each interface that has records.
-ghost use Rattle.std.specs.Prelude.{◌≡◌, [], ◌<◌, false, true, IfOk, MatchOption, OnOk, OnErr, filter, insert, is_some, length, if◌then◌else◌};
+ghost use Rattle.std.specs.Prelude.{◌≡◌, [], ◌<◌, false, true, not, nat_eq, position, slice_get, IfOk, MatchOption, OnOk, OnErr, Some, filter, insert, is_some, length, if◌then◌else◌};
 ghost use Rattle.std.specs.BTreeMap.{is_at};
 ghost use Rattle.slab.specs.Slab.{get};
-ghost use Rattle.open_records.specs.Flat.{AllFilled, IsFirst, IsNext, NoneAfter, ascend, keys_at, present};
+ghost use Rattle.open_records.specs.Flat.{AllFilled, IsFirst, IsLost, IsNext, NoneAfter, ascend, each_once, has_key, keys_at, present};
 ghost use Rattle.open_records.specs.Store.{Interface as InterfaceValue, interface_cmp};
 
 use crate::indexes::Interface;
@@ -59,25 +59,66 @@ pub fn put_key(
     Ok(())
 }
 
-/// Takes those keys out of a list that have no record, and answers whether no key is left.
-fn keep_present(keys: &mut Vec<usize>, store: &Store) -> bool
+/// The first place of a key among others.
+fn first_place(keys: &[usize], key: usize) -> Option<usize>
+    ensures { result ≡ position (nat_eq key) keys.now }
+{
+    keys.iter().position(|other| key == *other)
+}
+
+/// A place of a key among others. The last is looked at first: what is opened last is often closed first.
+pub fn place_of(keys: &[usize], key: usize) -> Option<usize>
+    ensures { MatchOption result (has_key key keys.now ≡ false)
+        (λ place. slice_get keys.now place ≡ Some key) }
+{
+    if keys.last().copied() == Some(key) {
+        return Some(keys.len() - 1);
+    }
+    first_place(keys, key)
+}
+
+/// Takes a key out of a list.
+fn take_key(keys: &mut Vec<usize>, key: usize)
+    ensures { each_once keys.old.items ≡ true → keys.new.items ≡ filter (λ other. not (nat_eq key other)) keys.old.items }
+{
+    if let Some(place) = place_of(keys.as_slice(), key) {
+        keys.remove(place);
+    }
+}
+
+/// Takes those keys out of a list that have no record. If only one has none, it may be given.
+fn drop_gone(keys: &mut Vec<usize>, gone: Option<usize>, store: &Store)
+    requires { IsLost gone store.now keys.old.items }
+    ensures { keys.new.items ≡ present store.now keys.old.items }
+{
+    match gone {
+        None => keys.retain(|key| store.has(*key)),
+        Some(key) => take_key(keys, key),
+    }
+}
+
+/// Takes those keys out of a list that have no record, and answers whether no key is left. If only one has
+/// none, it may be given.
+fn keep_present(keys: &mut Vec<usize>, gone: Option<usize>, store: &Store) -> bool
+    requires { IsLost gone store.now keys.old.items }
     ensures kept { keys.new.items ≡ present store.now keys.old.items }
     ensures none { result ≡ true → keys.new.items ≡ [] }
     ensures some { result ≡ false → 0 < length keys.new.items }
 {
-    keys.retain(|key| store.has(*key));
+    drop_gone(keys, gone, store);
     keys.as_slice().is_empty()
 }
 
-/// Takes those keys of an interface out that have no record.
-pub fn drop_absent(lists: &mut Lists, interface: Interface, store: &Store)
+/// Takes those keys of an interface out that have no record. If only one has none, it may be given.
+pub fn drop_absent(lists: &mut Lists, interface: Interface, gone: Option<usize>, store: &Store)
+    requires { IsLost gone store.now (keys_at lists.old interface) }
     ensures keys { (other : InterfaceValue) → keys_at lists.new other
         ≡ (if is_at (interface_cmp interface) other then present store.now (keys_at lists.old interface) else keys_at lists.old other) }
     ensures ordered { ascend lists.new.entries ≡ true }
     ensures filled { AllFilled lists.old → AllFilled lists.new }
 {
     if let Some(keys) = lists.get_mut(&interface) {
-        if keep_present(keys, store) {
+        if keep_present(keys, gone, store) {
             lists.remove(&interface);
         }
     }

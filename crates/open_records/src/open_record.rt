@@ -133,7 +133,7 @@ impl KeyedRecord {
 }
 
 /// Whether a number is the one that is given, if one is.
-fn fits(given: Option<u64>, number: u64) -> bool
+pub(crate) fn fits(given: Option<u64>, number: u64) -> bool
     ensures { result ≡ fits given number }
 {
     match given {

@@ -9,7 +9,7 @@ ghost use Rattle.open_records.specs.PuttingBack.{count_of, count_set, gone_by, p
 ghost use Rattle.open_records.specs.Verdicts.{judge, may_enter};
 
 use crate::adding::enter;
-use crate::choices::{AgentsOf, Dead, Equal, Meant};
+use crate::choices::{AgentsOf, Dead, Meant};
 use crate::fault::RecFault;
 use crate::finding::{gone_in, meant_in};
 use crate::managing::{children_on, managers_on};
@@ -209,12 +209,7 @@ impl Records {
     {
         let table = &mut self.table;
         if count == 0 {
-            let equal = Equal {
-                agent,
-                controller,
-                attr,
-            };
-            table.drop_where(handle, guid, &equal);
+            table.drop_equal(handle, guid, agent, controller, attr);
             return;
         }
         table.recount(handle, guid, agent, controller, attr, count);

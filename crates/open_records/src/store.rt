@@ -1,9 +1,10 @@
 //! The records under their keys, with the indexes by which the keys are found.
 ghost use Rattle.std.specs.Prelude.{◌≡◌, ◌≢◌, ◌+◌, ℕ, true, Some, None, IfOk, OnOk, OnErr, MatchOption, IfSome, IfNone, is_some, option_copied, option_map};
 ghost use Rattle.slab.specs.Slab.{SameValues, Updates, get, slab_len};
-ghost use Rattle.open_records.specs.Store.{IsFirstNaming, IsFree, IsNextNamed, NoNaming, NonePasses, OnlyPasses, is_holder, is_named_from, is_open, earlier, recounted};
+ghost use Rattle.open_records.specs.Store.{IsAsked, IsFirstNaming, IsFree, IsNextNamed, NoNaming, NoneAsked, NonePasses, OnlyPasses, is_holder, is_named_from, is_open, is_twin, earlier, recounted};
+ghost use Rattle.open_records.specs.Table.{left};
 
-use crate::indexes::{Indexes, Interface, Naming, Open};
+use crate::indexes::{Indexes, Interface, Naming, Open, Query, first_asked};
 use crate::open_record::KeyedRecord;
 use fw_types::{Guid, Handle, OutOfMemory};
 use slab::Slab;
@@ -103,6 +104,14 @@ impl Store {
         self.indexes.by_open.get(&query).copied()
     }
 
+    /// The key of a record that a query asks for, other than one that is skipped, if there is one.
+    pub fn asked(&self, query: &Query, skipped: Option<usize>) -> Option<usize>
+        ensures { MatchOption result (NoneAsked query.now skipped self.now)
+            (λ key. IsAsked query.now skipped key self.now) }
+    {
+        first_asked(&self.indexes.by_open, query, skipped)
+    }
+
     /// The first interface that does not come before another and of which a record names a handle.
     pub fn next_named(&self, name: u64, from: Interface) -> Option<Interface>
         ensures { MatchOption result (NonePasses (is_named_from name from) self.now)
@@ -124,7 +133,8 @@ impl Store {
 
     /// Takes out the record under a key.
     pub fn remove(&mut self, key: usize)
-        ensures { Updates self.old self.new key None }
+        ensures updates { Updates self.old self.new key None }
+        ensures left { (other : ℕ) → get self.new other ≡ left (is_twin (get self.old key)) (get self.old other) }
     {
         if let Some(one) = self.records.try_remove(key) {
             self.indexes.forget(key, &one);

@@ -1,21 +1,24 @@
 //! The records of all interfaces: under keys, with a list of keys for each interface.
-ghost use Rattle.std.specs.Prelude.{◌≡◌, ◌≢◌, ℕ, [], false, true, ◌&&◌, not, nat_eq, IfOk, MatchOption, OnOk, OnErr, find, map, length, option_map, filter, if◌then◌else◌};
+ghost use Rattle.std.specs.Prelude.{◌≡◌, ◌≢◌, ◌<◌, ◌^◌, ℕ, [], false, true, ◌&&◌, not, nat_eq, IfOk, MatchOption, OnOk, OnErr, find, map, length, option_map, filter, if◌then◌else◌};
 ghost use Rattle.std.specs.List.{list_any};
 ghost use Rattle.slab.specs.Slab.{get};
 ghost use Rattle.open_records.specs.Adding.{with_new, with_raised};
 ghost use Rattle.open_records.specs.Flat.{has_key, row};
-ghost use Rattle.open_records.specs.Leaving.{is_meant};
+ghost use Rattle.open_records.specs.Leaving.{is_meant, with_places};
 ghost use Rattle.open_records.specs.OpenRecords.{is_after, is_equal, is_of, is_strong, records_of};
+ghost use Rattle.open_records.specs.Places.{IsGoing};
 ghost use Rattle.open_records.specs.PuttingBack.{count_in, counted, is_open, put_one};
-ghost use Rattle.open_records.specs.Store.{is_named_from};
+ghost use Rattle.open_records.specs.Store.{is_asked, is_named_from};
 ghost use Rattle.open_records.specs.Table.{IsFirstOf, IsNamedOf, IsNew, IsNextOf, left, raised_keyed};
 ghost use Rattle.open_records.specs.declared.open_record.KeyedRecord.{KeyedRecord as KeyedValue};
 
 use crate::choices::{Meant, Test};
-use crate::indexes::Interface;
+use crate::going::Going;
+use crate::indexes::{Interface, Query};
 use crate::lists::{Lists, after, drop_absent, first, keys_of, put_key};
 use crate::open_record::{KeyedRecord, Rec};
 use crate::store::Store;
+use crate::taking::{going_of, take_few, take_out};
 use fw_types::{Attr, Guid, Handle, OutOfMemory};
 use std::alloc::Global;
 use std::collections::BTreeMap;
@@ -180,7 +183,32 @@ impl Table {
         ensures { let test = is_meant meant.now.agent meant.now.controller meant.now.bits in
             result ≡ list_any test (records_of self.now handle guid) }
     {
-        any_chosen(&self.store, keys_of(&self.lists, (handle, guid)), meant)
+        match meant.asked_on((handle, guid)) {
+            None => any_chosen(&self.store, keys_of(&self.lists, (handle, guid)), meant),
+            Some(query) => self.store.asked(&query, None).is_some(),
+        }
+    }
+
+    /// What goes if those of an interface's records go that are meant. Walks over them only if no agent is
+    /// given.
+    pub fn going(&self, handle: Handle, guid: Guid, meant: &Meant) -> Going
+        requires { length self.now < 2 ^ 32 }
+        ensures { let test = is_meant meant.now.agent meant.now.controller meant.now.bits in
+            IsGoing result (with_places test (records_of self.now handle guid)) }
+    {
+        match meant.asked_on((handle, guid)) {
+            None => {
+                if self.has_meant(handle, guid, meant) {
+                    Going::Many
+                } else {
+                    Going::Nothing
+                }
+            }
+            Some(query) => match self.store.asked(&query, None) {
+                None => Going::Nothing,
+                Some(key) => going_of(&self.store, &self.lists, &query, key),
+            },
+        }
     }
 
     /// Whether one of the records of an interface is chosen.
@@ -236,6 +264,50 @@ impl Table {
         self.store.next_named(name.get(), from)
     }
 
+    /// Removes those of an interface's records that are meant. If an agent is given, a few are found without
+    /// the others.
+    pub fn drop_meant(&mut self, handle: Handle, guid: Guid, meant: &Meant)
+        ensures { let test = is_meant meant.now.agent meant.now.controller meant.now.bits in
+            let goes = λ (one : KeyedValue). is_of handle guid one && test one.rec in
+            self.new ≡ filter (λ (one : KeyedValue). not (goes one)) self.old }
+    {
+        match meant.asked_on((handle, guid)) {
+            None => self.drop_where(handle, guid, meant),
+            Some(query) => {
+                if !self.drop_few(&query) {
+                    self.drop_where(handle, guid, meant);
+                }
+            }
+        }
+    }
+
+    /// Removes records that a query asks for, but only a few, and answers whether none is left.
+    fn drop_few(&mut self, query: &Query) -> bool
+        ensures few { let stays = λ (one : KeyedValue). not (is_asked query.now one) in
+            filter stays self.new ≡ filter stays self.old }
+        ensures none { result ≡ true → list_any (is_asked query.now) self.new ≡ false }
+    {
+        take_few(&mut self.store, &mut self.lists, query)
+    }
+
+    /// Removes the record of an interface with an agent, a controller and an attribute, if there is one.
+    pub fn drop_equal(
+        &mut self,
+        handle: Handle,
+        guid: Guid,
+        agent: u64,
+        controller: u64,
+        attr: Attr,
+    )
+        ensures { let goes = is_open handle guid agent controller attr in
+            self.new ≡ filter (λ (one : KeyedValue). not (goes one)) self.old }
+    {
+        let query = ((handle, guid), (agent, controller, attr.bits()));
+        if let Some(key) = self.store.key_of(query) {
+            take_out(&mut self.store, &mut self.lists, key);
+        }
+    }
+
     /// Removes the records of an interface that are chosen.
     pub fn drop_where<T: Test>(&mut self, handle: Handle, guid: Guid, test: &T)
         ensures { let goes = λ (one : KeyedValue). is_of handle guid one && T.chosen test.now one in
@@ -243,7 +315,7 @@ impl Table {
     {
         let keys = keys_of(&self.lists, (handle, guid));
         remove_chosen(&mut self.store, keys, test);
-        drop_absent(&mut self.lists, (handle, guid), &self.store);
+        drop_absent(&mut self.lists, (handle, guid), None, &self.store);
     }
 }
 

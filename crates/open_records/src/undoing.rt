@@ -1,9 +1,10 @@
 //! Records that go, as a list of what went, and records that are put back.
-ghost use Rattle.std.specs.Prelude.{◌≡◌, true, OnOk};
+ghost use Rattle.std.specs.Prelude.{◌≡◌, true, OnOk, IfSome};
+ghost use Rattle.open_records.specs.Asking.{PicksMeant};
 ghost use Rattle.open_records.specs.OpenRecords.{rise, stand_apart};
 ghost use Rattle.open_records.specs.PuttingBack.{picks, put_all as all_put, put_one as one_put};
 
-use crate::choices::Test;
+use crate::choices::{Meant, Test};
 use crate::open_record::{KeyedRecord, Rec};
 use crate::table::Table;
 use fw_types::{Guid, Handle, OutOfMemory};
@@ -79,6 +80,50 @@ impl Choice {
                 one.goes_with(*handle, *guid) || (*gone && one.rec.is_named(handle.get()))
             }
             Choice::Naming { name } => one.rec.is_named(name.get()),
+        }
+    }
+}
+
+impl Choice {
+    /// Which of an interface's records it picks, if that is said by agent, controller and bits.
+    pub(crate) fn meant_on(&self, owner: Handle, protocol: Guid) -> Option<Meant>
+        ensures { IfSome result (λ meant. PicksMeant owner protocol meant self.now) }
+    {
+        match self {
+            Choice::OfInterface {
+                handle,
+                guid,
+                agent,
+                controller,
+                bits,
+            } => {
+                if *handle == owner && *guid == protocol {
+                    Some(Meant {
+                        agent: *agent,
+                        controller: *controller,
+                        bits: *bits,
+                    })
+                } else {
+                    None
+                }
+            }
+            Choice::OnHandle {
+                handle,
+                agent,
+                controller,
+                bits,
+            } => {
+                if *handle == owner {
+                    Some(Meant {
+                        agent: *agent,
+                        controller: *controller,
+                        bits: *bits,
+                    })
+                } else {
+                    None
+                }
+            }
+            Choice::WithInterface { .. } | Choice::Naming { .. } => None,
         }
     }
 }

@@ -1,8 +1,9 @@
-use Rattle.std.proofs.Common.{◌∙◌, ap, arith, length}
+use Rattle.std.proofs.Common.{refl}
+use Rattle.open_records.specs.OpenRecords.{records_of}
 use Rattle.open_records.specs.PuttingBack.{picks}
 use Rattle.open_records.specs.Store.{Interface}
 use Rattle.open_records.proofs.LoopLemmas.{match_none, match_some}
-use Rattle.open_records.proofs.PlaceLemmas.{fewer_to_come, found_all, found_here, found_next, has_here, found_start, length-records_le}
+use Rattle.open_records.proofs.PlaceLemmas.{fewer_to_come, found_all, found_here, found_next, has_here, found_start}
 use Rattle.open_records.proofs.finding.gone_in.Goals as goal
 
 pub loop-at-init : goal.loop-at-init
@@ -13,11 +14,6 @@ returns-in_default-next_of c =
     found_all (picks c.args.choice.now) c.args.table.now c.requires.rising c.in-Some.from c.loop-at.found.items (match_none c.next_of.result _ _ c.in_default-next_of.is c.next_of.ensures)
     (found_here (picks c.args.choice.now) c.loop-at.at c.in-Some.from c.loop-at.found.items c.args.table.now c.in-Some.is c.loop-at.invariant)
 
-pub push_gone-requires : goal.push_gone-requires
-push_gone-requires c =
-    let i : Interface = c.in-Some-next_of.interface in
-    omega (arith, ap length (c.as_slice.ensures.value ∙ c.in_ok-mine.ensures), length-records_le c.args.table.now i.0 i.1, c.requires.few)
-
 pub loop-at-smaller : goal.loop-at-smaller
 loop-at-smaller c =
     let i : Interface = c.in-Some-next_of.interface in
@@ -26,8 +22,8 @@ loop-at-smaller c =
 pub loop-at-preserved : goal.loop-at-preserved
 loop-at-preserved c =
     let i : Interface = c.in-Some-next_of.interface in
-    found_next (picks c.args.choice.now) c.args.table.now c.requires.rising c.in-Some.from i c.loop-at.at c.after-at.result c.loop-at.found.items c.push_gone.new.found.items c.as_slice.result.now c.in-Some.is
-    (match_some c.next_of.result i _ _ c.in-Some-next_of.is c.next_of.ensures) c.after-at.ensures c.loop-at.invariant c.in_ok-push_gone.ensures (c.as_slice.ensures.value ∙ c.in_ok-mine.ensures)
+    found_next (picks c.args.choice.now) c.args.table.now c.requires.rising c.in-Some.from i c.loop-at.at c.after-at.result c.loop-at.found.items c.push_picked.new.found.items (records_of c.args.table.now i.0 i.1) c.in-Some.is
+    (match_some c.next_of.result i _ _ c.in-Some-next_of.is c.next_of.ensures) c.after-at.ensures c.loop-at.invariant c.in_ok-push_picked.ensures refl
 
 pub next_of-requires : goal.next_of-requires
 next_of-requires c = has_here (picks c.args.choice.now) c.loop-at.at c.in-Some.from c.loop-at.found.items c.args.table.now c.in-Some.is c.loop-at.invariant

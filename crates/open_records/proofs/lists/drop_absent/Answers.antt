@@ -47,3 +47,8 @@ returns-clause-filled c =
           rw w.lists-is (filled_after c.args.interface c.args.lists.now (c.get_mut.follows.lender w.keep_present.new.keys) (Some w.keep_present.new.keys) written (lt-ltb 0 _ (w.keep_present.ensures.some w.if-keep_present.false)))
       | in_default w ↦ rw (w.lists-is, c.get_mut.follows.holds-at-none) (λ all. all)
     ]
+
+pub keep_present-requires : goal.keep_present-requires
+keep_present-requires c =
+    let same : c.in-Some.keys.now.items ≡ keys_at c.args.lists.now c.args.interface = ap keys_in c.in-Some.ensures.value in
+    rw same c.requires

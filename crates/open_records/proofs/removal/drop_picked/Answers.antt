@@ -28,7 +28,7 @@ loop-at-smaller c =
     let past : Interface = c.in-Some-next_of.interface in
     let next : IsNextOn chosen from past c.loop-at.table = match_some c.next_of.result past _ _ c.in-Some-next_of.is c.next_of.ensures in
     let cursor = jumped chosen from past c.loop-at.table (cursor_at chosen from c.loop-at.table c.loop-at.at c.in-Some.is c.loop-at.invariant.1) next in
-    let few = fewer_by chosen past c.loop-at.table c.drop_where.new.self (Some past) refl cursor c.drop_where.ensures c.after-at.result c.after-at.ensures in
+    let few = fewer_by chosen past c.loop-at.table c.drop_on.new.table (Some past) refl cursor c.drop_on.ensures c.after-at.result c.after-at.ensures in
     let less = jump_less chosen from past c.loop-at.table next in
     rw c.in-Some.is (omega (arith, few, less))
 
@@ -40,8 +40,8 @@ loop-at-preserved c =
     let next : IsNextOn chosen from past c.loop-at.table = match_some c.next_of.result past _ _ c.in-Some-next_of.is c.next_of.ensures in
     let cursor = jumped chosen from past c.loop-at.table (cursor_at chosen from c.loop-at.table c.loop-at.at c.in-Some.is c.loop-at.invariant.1) next in
     let on : KeyedRecord → Bool = is_of past.0 past.1 in (
-      stays_by (λ one. on one && chosen one) chosen c.loop-at.table c.drop_where.new.self (λ x goes. (and_parts (on x) (chosen x) goes).1) c.drop_where.ensures ∙ c.loop-at.invariant.0,
-      walks_by chosen past c.loop-at.table c.drop_where.new.self (Some past) refl cursor c.drop_where.ensures c.after-at.result c.after-at.ensures,
+      stays_by (λ one. on one && chosen one) chosen c.loop-at.table c.drop_on.new.table (λ x goes. (and_parts (on x) (chosen x) goes).1) c.drop_on.ensures ∙ c.loop-at.invariant.0,
+      walks_by chosen past c.loop-at.table c.drop_on.new.table (Some past) refl cursor c.drop_on.ensures c.after-at.result c.after-at.ensures,
     )
 
 pub returns : goal.returns

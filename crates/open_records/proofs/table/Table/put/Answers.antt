@@ -18,5 +18,5 @@ returns-in-Ok-clause-ok c =
 
 pub returns-in-Err-clause-err : goal.returns-in-Err-clause-err
 returns-in-Err-clause-err c =
-    let all = back_again c.self.inside.store c.insert.new.self c.remove.new.self c.in_ok-key.key c.args.one c.in_ok-key.ensures.vacant c.in_ok-key.ensures.updates c.remove.ensures in
+    let all = back_again c.self.inside.store c.insert.new.self c.remove.new.self c.in_ok-key.key c.args.one c.in_ok-key.ensures.vacant c.in_ok-key.ensures.updates c.remove.ensures.updates in
     rw (← c.self.view_is) (whole_same c.self.inside.store c.remove.new.self c.self.inside.lists c.put_key.new.lists c.self.invariant all c.in-Err.ensures.err c.put_key.ensures.ordered (c.put_key.ensures.filled c.self.invariant.filled))
