@@ -95,6 +95,9 @@ equal_clash handle guid agent controller attr one other here equal free =
     weaker_or (is_of one.handle one.guid other) (is_strong one.rec && is_strong other.rec) (is_equal one.rec.agent one.rec.controller one.rec.attr other.rec) free in
     apart_here handle guid one other (is_equal agent controller attr other.rec) here (rw (← same.same_agent, ← same.same_controller, ← same.same_attr) both)
 
+pub one_strong : (entries : List KeyedRecord) → stand_apart entries ≡ true → (handle : ℕ) (guid : List ℕ) → length (filter is_strong (records_of entries handle guid)) ≤ 1
+one_strong entries apart handle guid = few_pass handle guid is_strong (strong_clash handle guid) entries apart
+
 pub one_holder : OneHolder
 one_holder table sound handle guid = at_most_one handle guid is_strong (strong_clash handle guid) table.entries sound.apart
 

@@ -1,9 +1,14 @@
 -- What is collected with the records of one more protocol.
-use Rattle.std.proofs.Common.{◌≡◌, ◌<◌, ℕ, suc, List, ◌∷◌, ◌++◌, length, map, filter, get_or, drop, Option, sym, ap, ◌∙◌}
+use Rattle.std.proofs.Common.{◌≡◌, ◌<◌, ◌≤◌, ◌+◌, ℕ, suc, false, not, nat_eq, List, [], ◌∷◌, ◌++◌, length, map, filter, find, get_or, drop, Option, refl, sym, ap, ◌∙◌, inl, inr, arith}
+use Rattle.std.specs.Int.RustNames.{bit_and}
+use Rattle.std.specs.Option.{option_to_list}
+use Rattle.std.proofs.lemmas.Bool.{cases_Bool, eqb-true, eq-eqb, not-false}
+use Rattle.std.proofs.lemmas.Nat.{and_assoc}
+use Rattle.fw_types.specs.declared.attr.TheConstants.Attr.{BY_DRIVER, HOLDING_BITS}
 use Rattle.std.proofs.Math.Seq.{drop-cons}
 use Rattle.std.proofs.lemmas.List.{map-append}
 use Rattle.std.proofs.lemmas.List.Elements.{filter-append}
-use Rattle.open_records.specs.OpenRecords.{records_of}
+use Rattle.open_records.specs.OpenRecords.{is_strong, records_of}
 use Rattle.open_records.specs.Managing.{child_numbers, is_child, is_managing, manager_numbers, records_on}
 use Rattle.open_records.specs.Places.{joined}
 use Rattle.open_records.specs.declared.open_record.KeyedRecord.{KeyedRecord}
@@ -30,3 +35,34 @@ module _ (entries : List KeyedRecord) (handle : ℕ) (protocols : List (List ℕ
   managers_at found =
       ap (λ l. joined found (manager_numbers l)) rest ∙ ap (joined found) (managers-append (records_of entries handle protocol.0) (records_on entries handle (drop (suc i) protocols)))
       ∙ joined-append found (manager_numbers (records_of entries handle protocol.0)) (manager_numbers (records_on entries handle (drop (suc i) protocols)))
+
+-- ---- the one record that may have BY_DRIVER
+
+weak_agent : (rec : Rec) → is_strong rec ≡ false → is_managing rec ≡ false
+weak_agent rec weak =
+    let none : bit_and rec.attr HOLDING_BITS ≡ 0 = eqb-true (bit_and rec.attr HOLDING_BITS) 0 (not-false (nat_eq (bit_and rec.attr HOLDING_BITS) 0) weak) in
+    let driver : bit_and rec.attr BY_DRIVER ≡ 0 = sym (and_assoc BY_DRIVER rec.attr HOLDING_BITS) ∙ ap (λ n. bit_and n BY_DRIVER) none in
+    ap not (eq-eqb (bit_and rec.attr BY_DRIVER) 0 driver)
+
+none_managing : (records : List Rec) → length (filter is_strong records) ≡ 0 → filter is_managing records ≡ []
+none_managing [] none = refl
+none_managing (rec ∷ records) none = elim (cases_Bool (is_strong rec)) [
+  | inl strong ↦ let more : suc (length (filter is_strong records)) ≡ 0 = rw strong at none in absurd (omega arith)
+  | inr weak ↦ let rest : length (filter is_strong records) ≡ 0 = rw weak at none in rw (weak_agent rec weak) (none_managing records rest)
+]
+
+-- where at most one has BY_DRIVER or EXCLUSIVE, it alone may manage
+pub managing_is : (records : List Rec) → length (filter is_strong records) ≤ 1 → manager_numbers (option_to_list (find is_strong records)) ≡ manager_numbers records
+managing_is records one = ap (map (λ (rec : Rec). rec.agent)) (by_filter records one)
+  where
+    by_filter : (records : List Rec) → length (filter is_strong records) ≤ 1 → filter is_managing (option_to_list (find is_strong records)) ≡ filter is_managing records
+    by_filter [] one = refl
+    by_filter (rec ∷ records) one = elim (cases_Bool (is_strong rec)) [
+      | inl strong ↦
+          let most : suc (length (filter is_strong records)) ≤ 1 = rw strong at one in
+          let none = none_managing records (omega arith) in
+          rw (strong, none) refl
+      | inr weak ↦
+          let rest : length (filter is_strong records) ≤ 1 = rw weak at one in
+          rw (weak, weak_agent rec weak) (by_filter records rest)
+    ]

@@ -1,5 +1,7 @@
 //! The children of a handle, and the agents that manage it.
-ghost use Rattle.std.specs.Prelude.{◌≡◌, IfOk, OnOk};
+ghost use Rattle.std.specs.Prelude.{◌≡◌, true, IfOk, OnOk};
+ghost use Rattle.std.specs.Option.{option_to_list};
+ghost use Rattle.open_records.specs.OpenRecords.{stand_apart};
 ghost use Rattle.open_records.specs.Managing.{child_numbers, manager_numbers, once_each, records_on};
 ghost use Rattle.open_records.specs.Places.{joined, with_number};
 
@@ -27,20 +29,21 @@ pub fn children_on(
     Ok(found)
 }
 
-/// The agents that manage a handle, by the protocols of the handle.
+/// The agents that manage a handle, by the protocols of the handle. A record with BY_DRIVER is the only one of
+/// its interface that has BY_DRIVER or EXCLUSIVE.
 pub fn managers_on(
     alloc: Global,
     table: &Table,
     handle: Handle,
     protocols: &[(Guid, u64, Handle)],
 ) -> Result<Vec<u64>, OutOfMemory>
+    requires { stand_apart table.now ≡ true }
     ensures { let records = records_on table.now handle protocols.now in
         IfOk result (λ found. found.items ≡ once_each (manager_numbers records)) }
 {
     let mut found = Vec::new(alloc);
     for (guid, _, _) in protocols {
-        let mine = table.list(handle, *guid)?;
-        add_managers(&mut found, mine.as_slice())?;
+        add_manager(&mut found, table.holder(handle, *guid))?;
     }
     Ok(found)
 }
@@ -61,16 +64,20 @@ fn add_children(
     Ok(())
 }
 
-/// Puts the agents of an interface's records with BY_DRIVER after others, if they are new.
-fn add_managers(found: &mut Vec<u64>, mine: &[Rec]) -> Result<(), OutOfMemory>
-    ensures { OnOk result (found.new.items ≡ joined found.old.items (manager_numbers mine.now)) }
+/// Puts the agent of a record after others, if there is one, it has BY_DRIVER and the agent is new.
+fn add_manager(found: &mut Vec<u64>, holder: Option<Rec>) -> Result<(), OutOfMemory>
+    ensures { OnOk result (found.new.items ≡ joined found.old.items (manager_numbers (option_to_list holder))) }
 {
-    for rec in mine {
-        if rec.is_managing() {
-            add_number(found, rec.agent)?;
+    match holder {
+        Some(rec) => {
+            if rec.is_managing() {
+                add_number(found, rec.agent)
+            } else {
+                Ok(())
+            }
         }
+        None => Ok(()),
     }
-    Ok(())
 }
 
 /// Puts a handle after others, if it is new.

@@ -3,8 +3,10 @@ use Rattle.std.proofs.lemmas.List.{drop_all}
 use Rattle.open_records.specs.Managing.{manager_numbers, records_on}
 use Rattle.open_records.specs.Places.{joined}
 use Rattle.open_records.specs.OpenRecords.{records_of}
+use Rattle.std.specs.Option.{option_to_list}
+use Rattle.open_records.proofs.LawProofs.{one_strong}
 use Rattle.open_records.proofs.DistinctNumbers.{once_joined}
-use Rattle.open_records.proofs.ManagingLemmas.{managers_at}
+use Rattle.open_records.proofs.ManagingLemmas.{managers_at, managing_is}
 use Rattle.open_records.proofs.managing.managers_on.Goals as goal
 
 pub loop-guid-preserved : goal.loop-guid-preserved
@@ -13,8 +15,10 @@ loop-guid-preserved c =
     let protocol = c.loop-guid-item.result in
     let within : i < length c.args.protocols.now = omega arith in
     let step = managers_at c.args.table.now c.args.handle c.args.protocols.now i protocol within c.loop-guid-item.is c.loop-guid.found.items in
-    let mine : c.add_managers.new.found.items ≡ joined c.loop-guid.found.items (manager_numbers (records_of c.args.table.now c.args.handle protocol.0)) =
-    c.in_ok-add_managers.ensures ∙ ap (λ l. joined c.loop-guid.found.items (manager_numbers l)) (c.as_slice.ensures.value ∙ c.in_ok-mine.ensures) in
+    let records = records_of c.args.table.now c.args.handle protocol.0 in
+    let mine : c.add_manager.new.found.items ≡ joined c.loop-guid.found.items (manager_numbers records) =
+    c.in_ok-add_manager.ensures ∙ ap (λ o. joined c.loop-guid.found.items (manager_numbers (option_to_list o))) c.holder.ensures
+    ∙ ap (joined c.loop-guid.found.items) (managing_is records (one_strong c.args.table.now c.requires c.args.handle protocol.0)) in
     rw (add-one, mine) (sym step ∙ c.loop-guid.invariant)
 
 pub returns : goal.returns
