@@ -1,5 +1,5 @@
 -- What is found among the records under their keys, as found in the list of all records.
-use Rattle.std.proofs.Common.{◌≡◌, ◌≢◌, ◌<◌, ℕ, zero, suc, ◌+◌, Bool, true, false, ◌&&◌, ◌||◌, nat_eq, List, [], ◌∷◌, ◌++◌, length, Option, Some, None, is_some, find, option_map, MatchOption, refl, sym, ap, ◌∙◌, inl, inr, arith, filter, map, nat_lt, take, Vec, get_or, if◌then◌else◌}
+use Rattle.std.proofs.Common.{◌≡◌, ◌≢◌, ◌<◌, ℕ, zero, suc, ◌+◌, Bool, true, false, ◌&&◌, ◌||◌, nat_eq, List, [], ◌∷◌, ◌++◌, length, Option, Some, None, is_some, find, option_map, MatchBool, MatchOption, refl, sym, ap, ◌∙◌, inl, inr, arith, filter, map, nat_lt, take, Vec, get_or, if◌then◌else◌}
 use Rattle.std.specs.declared.alloc.Global.{Global}
 use Rattle.std.specs.List.{cons_option, list_any}
 use Rattle.std.specs.BTreeMap as tree
@@ -13,7 +13,7 @@ use Rattle.open_records.specs.Leaving.{is_named}
 use Rattle.open_records.specs.PuttingBack.{count_in}
 use Rattle.open_records.specs.OpenRecords.{is_after, is_before, is_equal, is_of, records_of}
 use Rattle.open_records.specs.Table.{IsFirstOf, IsNamedOf, IsNextOf}
-use Rattle.open_records.specs.Store.{Interface, IsNextNamed, NonePasses, OnlyPasses, SomePasses, holds, interface_cmp, interface_of, is_named_from, is_on}
+use Rattle.open_records.specs.Store.{Interface, IsNextNamed, NonePasses, OnlyPasses, SomePasses, holds, interface_cmp, interface_of, is_named_from, is_of_attr, is_on}
 use Rattle.open_records.specs.declared.open_record.KeyedRecord.{KeyedRecord}
 use Rattle.open_records.specs.declared.open_record.Rec.{Rec}
 use Rattle.open_records.proofs.ListLemmas.{any_map}
@@ -337,3 +337,22 @@ pub meant_of_row : (records : Slab KeyedRecord) (lists : Lists) (listed : IsList
     → list_any (λ (one : KeyedRecord). test one.rec) (row records (keys_at lists (handle, guid))) ≡ list_any test (records_of (all_records records lists.entries) handle guid)
 meant_of_row records lists listed test handle guid =
     sym (any_map (λ (one : KeyedRecord). one.rec) test (row records (keys_at lists (handle, guid)))) ∙ ap (list_any test) (sym (records_here records lists listed handle guid))
+
+-- whether an interface has a record with an attribute
+module _ (records : Slab KeyedRecord) (lists : Lists) (listed : IsListed records lists) (handle : ℕ) (guid : List ℕ) (bits : ℕ) where
+  abbrev has_bits : Rec → Bool
+  has_bits rec = nat_eq rec.attr bits
+
+  turned : (slot : Option KeyedRecord) → holds (λ one. is_of handle guid one && has_bits one.rec) slot ≡ holds (is_of_attr (bits, (handle, guid))) slot
+  turned None = refl
+  turned (Some one) = and_turned (is_of handle guid one) (has_bits one.rec)
+    where
+      and_turned : (a b : Bool) → (a && b) ≡ (b && a)
+      and_turned true true = refl
+      and_turned true false = refl
+      and_turned false true = refl
+      and_turned false false = refl
+
+  pub any_attr : (b : Bool) → MatchBool b (SomePasses (is_of_attr (bits, (handle, guid))) records) (NonePasses (is_of_attr (bits, (handle, guid))) records) → b ≡ list_any has_bits (records_of (all_records records lists.entries) handle guid)
+  any_attr true some = sym (some_here records lists listed has_bits handle guid (some.0, turned (get records some.0) ∙ some.1))
+  any_attr false none = sym (none_here records lists listed has_bits handle guid (λ key. turned (get records key) ∙ none key))

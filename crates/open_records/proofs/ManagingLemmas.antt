@@ -1,10 +1,11 @@
 -- What is collected with the records of one more protocol.
-use Rattle.std.proofs.Common.{◌≡◌, ◌<◌, ◌≤◌, ◌+◌, ℕ, suc, false, not, nat_eq, List, [], ◌∷◌, ◌++◌, length, map, filter, find, get_or, drop, Option, refl, sym, ap, ◌∙◌, inl, inr, arith}
+use Rattle.std.proofs.Common.{◌≡◌, ◌<◌, ◌≤◌, ℕ, suc, false, not, nat_eq, List, [], ◌∷◌, ◌++◌, length, map, filter, find, get_or, drop, Option, refl, sym, ap, ◌∙◌, inl, inr, arith}
 use Rattle.std.specs.Int.RustNames.{bit_and}
+use Rattle.std.specs.List.{list_any}
 use Rattle.std.specs.Option.{option_to_list}
-use Rattle.std.proofs.lemmas.Bool.{cases_Bool, eqb-true, eq-eqb, not-false}
+use Rattle.std.proofs.lemmas.Bool.{cases_Bool, eqb-true, eq-eqb, not-false, or_parts}
 use Rattle.std.proofs.lemmas.Nat.{and_assoc}
-use Rattle.fw_types.specs.declared.attr.TheConstants.Attr.{BY_DRIVER, HOLDING_BITS}
+use Rattle.fw_types.specs.declared.attr.TheConstants.Attr.{BY_CHILD_CONTROLLER, BY_DRIVER, HOLDING_BITS}
 use Rattle.std.proofs.Math.Seq.{drop-cons}
 use Rattle.std.proofs.lemmas.List.{map-append}
 use Rattle.std.proofs.lemmas.List.Elements.{filter-append}
@@ -66,3 +67,14 @@ managing_is records one = ap (map (λ (rec : Rec). rec.agent)) (by_filter record
           let rest : length (filter is_strong records) ≤ 1 = rw weak at one in
           rw (weak, weak_agent rec weak) (by_filter records rest)
     ]
+
+-- ---- an interface without a BY_CHILD_CONTROLLER record
+
+pub no_children : (agent : Option ℕ) (records : List Rec) → list_any (λ (rec : Rec). nat_eq rec.attr BY_CHILD_CONTROLLER) records ≡ false → child_numbers agent records ≡ []
+no_children agent records none = ap (map (λ (rec : Rec). rec.controller)) (by_filter records none)
+  where
+    by_filter : (records : List Rec) → list_any (λ (rec : Rec). nat_eq rec.attr BY_CHILD_CONTROLLER) records ≡ false → filter (is_child agent) records ≡ []
+    by_filter [] none = refl
+    by_filter (rec ∷ records) none =
+        let parts = or_parts (nat_eq rec.attr BY_CHILD_CONTROLLER) (list_any (λ (rec : Rec). nat_eq rec.attr BY_CHILD_CONTROLLER) records) none in
+        rw parts.0 (by_filter records parts.1)

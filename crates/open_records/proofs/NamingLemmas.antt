@@ -1,20 +1,21 @@
 -- The first interface of which a record names a handle.
-use Rattle.std.proofs.Common.{◌≡◌, ◌≢◌, ℕ, Bool, true, false, not, ◌&&◌, ◌||◌, nat_eq, List, ◌∷◌, Option, Some, None, MatchOption, IfSome, option_map, refl, sym, ap, ◌∙◌, inl, inr, arith, if◌then◌else◌}
+use Rattle.std.proofs.Common.{◌≡◌, ◌≢◌, ℕ, Bool, true, false, not, ◌&&◌, ◌||◌, nat_eq, bytes_eq, List, ◌∷◌, Option, Some, None, MatchBool, MatchOption, IfSome, option_map, refl, sym, ap, ◌∙◌, inl, inr, arith, if◌then◌else◌}
 use Rattle.std.specs.declared.cmp.Ordering.{Ordering}
 use Rattle.std.specs.declared.cmp.Ordering.TheVariants.{Less, Equal, Greater}
 use Rattle.std.specs.List.{slice_get}
-use Rattle.std.specs.Ordering.{is_gt, is_lt, nat_cmp, ordering_then}
+use Rattle.std.specs.Ordering.{is_eq, is_gt, is_lt, nat_cmp, ordering_then}
 use Rattle.std.specs.BTreeSet as set
 use Rattle.std.proofs.lemmas.Bool.{both_ways, cases_Bool, eqb-true, eq-eqb, false_from_ne_true}
 use Rattle.std.proofs.lemmas.Bool.Decides.{nat_tests}
+use Rattle.std.proofs.lemmas.Cmp.{tied_itself}
 use Rattle.slab.specs.Slab.{Slab, get}
 use Rattle.open_records.specs.Leaving.{is_named}
 use Rattle.open_records.specs.OpenRecords.{is_before}
-use Rattle.open_records.specs.Store.{Interface, IsFirstNaming, IsIndexed, IsNextNamed, Naming, NamesEach, NoNaming, NonePasses, SomePasses, earlier, holds, interface_cmp, interface_of, is_named_from, is_of_agent, is_of_controller, is_on, naming_cmp, recounted}
+use Rattle.open_records.specs.Store.{Interface, IsFirstNaming, IsIndexed, IsNextNamed, Naming, NamesEach, NoNaming, NonePasses, SomePasses, earlier, holds, interface_cmp, interface_of, is_named_from, is_of_agent, is_of_attr, is_of_controller, is_on, naming_cmp, recounted}
 use Rattle.open_records.specs.declared.indexes.Indexes.{Indexes}
 use Rattle.open_records.specs.declared.open_record.KeyedRecord.{KeyedRecord}
-use Rattle.open_records.proofs.Order.{flipped, of_itself, total}
-use Rattle.open_records.proofs.StoreLemmas.{exact_interface}
+use Rattle.open_records.proofs.Order.{flipped, of_is_eq, of_itself, total}
+use Rattle.open_records.proofs.StoreLemmas.{exact_interface, is_equal_by}
 
 -- ---- among the entries of an index
 
@@ -248,6 +249,42 @@ module _ (records after : Slab KeyedRecord) (key count : ℕ) (changed : get aft
   indexed_recount indexes indexed = record {
     agents = λ named k. indexed.agents named k ∙ sym (unseen (is_of_agent named) (λ one. refl) k);
     controllers = λ named k. indexed.controllers named k ∙ sym (unseen (is_of_controller named) (λ one. refl) k);
+    attrs = λ named k. indexed.attrs named k ∙ sym (unseen (is_of_attr named) (λ one. refl) k);
     opens = λ query k. indexed.opens query k ∙ sym (unseen _ (λ one. refl) k);
     holders = λ query k. indexed.holders query k ∙ sym (unseen _ (λ one. refl) k);
   }
+
+-- ---- the attributes of an interface's records
+
+neither_lt_eq : (o : Ordering) → is_lt o ≡ false → is_eq o ≡ false → is_gt o ≡ true
+neither_lt_eq Less lt eq = absurd cc
+neither_lt_eq Equal lt eq = absurd cc
+neither_lt_eq Greater lt eq = refl
+
+module _ (bits : ℕ) (interface : Interface) (index : set.BTreeSet Naming) (records : Slab KeyedRecord) (exact : NamesEach is_of_attr index records) where
+  from_itself : is_lt (interface_cmp interface interface) ≡ false
+  from_itself = ap is_lt (tied_itself total interface)
+
+  pub attr_none : NoNaming bits interface index → NonePasses (is_of_attr (bits, interface)) records
+  attr_none none key = sym (exact (bits, interface) key) ∙ none interface key from_itself
+
+  module _ (found : Interface) (first : IsFirstNaming bits interface found index) where
+    -- an interface as a record has it
+    abbrev as_record : KeyedRecord
+    as_record = record { handle = found.0; guid = found.1; rec = record { agent = 0; controller = 0; attr = 0; count = 0 } }
+
+    pub attr_here : (nat_eq found.0 interface.0 && bytes_eq found.1 interface.1) ≡ true → SomePasses (is_of_attr (bits, interface)) records
+    attr_here same =
+        let is : found ≡ interface = exact_interface found interface (is_equal_by (interface_cmp found interface) (sym (of_is_eq interface.0 interface.1 as_record) ∙ same)) in
+        (first.key, sym (exact (bits, interface) first.key) ∙ ap (λ (i : Interface). set.contains naming_cmp index (bits, i, first.key)) (sym is) ∙ first.has)
+
+    pub attr_past : (nat_eq found.0 interface.0 && bytes_eq found.1 interface.1) ≡ false → NonePasses (is_of_attr (bits, interface)) records
+    attr_past apart key =
+        let differs : is_eq (interface_cmp found interface) ≡ false = sym (of_is_eq interface.0 interface.1 as_record) ∙ apart in
+        let before : is_lt (interface_cmp interface found) ≡ true = flipped interface found ∙ neither_lt_eq (interface_cmp found interface) first.from_on differs in
+        sym (exact (bits, interface) key) ∙ first.first interface key from_itself before
+
+    -- by the comparison of the code
+    pub attr_by : (b : Bool) → b ≡ (nat_eq found.0 interface.0 && bytes_eq found.1 interface.1) → MatchBool b (SomePasses (is_of_attr (bits, interface)) records) (NonePasses (is_of_attr (bits, interface)) records)
+    attr_by true is = attr_here (sym is)
+    attr_by false is = attr_past (sym is)

@@ -12,7 +12,7 @@ use Rattle.std.proofs.lemmas.Map.Lookups.{CmpEqualImpliesEq, exact_bytes, exact_
 use Rattle.std.proofs.Common.{arith}
 use Rattle.slab.specs.Slab.{Slab, Updates, get}
 use Rattle.open_records.specs.OpenRecords.{is_strong}
-use Rattle.open_records.specs.Store.{FindsEach, HasIt, HasNone, Interface, IsFree, IsIndexed, Naming, NamesEach, NonePasses, Open, SameOthers, holds, interface_cmp, interface_of, is_holder, is_key, is_of_agent, is_of_controller, is_on, is_open, naming_cmp, open_cmp, open_of}
+use Rattle.open_records.specs.Store.{FindsEach, HasIt, HasNone, Interface, IsFree, IsIndexed, Naming, NamesEach, NonePasses, Open, SameOthers, holds, interface_cmp, interface_of, is_holder, is_key, is_of_agent, is_of_attr, is_of_controller, is_on, is_open, naming_cmp, open_cmp, open_of}
 use Rattle.open_records.specs.declared.indexes.Indexes.{Indexes}
 use Rattle.open_records.specs.declared.open_record.KeyedRecord.{KeyedRecord}
 use Rattle.open_records.proofs.Order.{of_is_eq}
@@ -242,6 +242,7 @@ module _ (key : ℕ) (one : KeyedRecord) (old new : Indexes) (others : SameOther
   indexed_back vacant free gone = record {
     agents = named_back is_of_agent one.rec.agent key one (λ named. refl) old.by_agent new.by_agent others.agents records indexed.agents vacant gone.agent;
     controllers = named_back is_of_controller one.rec.controller key one (λ named. refl) old.by_controller new.by_controller others.controllers records indexed.controllers vacant gone.controller;
+    attrs = named_back is_of_attr one.rec.attr key one (λ named. refl) old.by_attr new.by_attr others.attrs records indexed.attrs vacant gone.attr;
     opens = found_back open_cmp exact_open is_open key one (open_of one) (at_open one) old.by_open new.by_open others.opens records indexed.opens free.opened gone.opened;
     holders = elim (cases_Bool (is_strong one.rec)) [
       | inl strong ↦ found_back interface_cmp exact_interface is_holder key one (interface_of one) (holder_at one strong) old.holders new.holders (holders_others strong) records indexed.holders (free.holder strong) (gone.holder strong)
@@ -254,6 +255,7 @@ module _ (key : ℕ) (one : KeyedRecord) (old new : Indexes) (others : SameOther
     indexed_more vacant free updates has = record {
       agents = named_more is_of_agent one.rec.agent key one (λ named. refl) old.by_agent new.by_agent others.agents records indexed.agents after vacant updates has.agent;
       controllers = named_more is_of_controller one.rec.controller key one (λ named. refl) old.by_controller new.by_controller others.controllers records indexed.controllers after vacant updates has.controller;
+      attrs = named_more is_of_attr one.rec.attr key one (λ named. refl) old.by_attr new.by_attr others.attrs records indexed.attrs after vacant updates has.attr;
       opens = found_more open_cmp exact_open is_open key one (open_of one) (at_open one) old.by_open new.by_open others.opens records indexed.opens after vacant free.opened updates has.opened;
       holders = elim (cases_Bool (is_strong one.rec)) [
         | inl strong ↦ found_more interface_cmp exact_interface is_holder key one (interface_of one) (holder_at one strong) old.holders new.holders (holders_others strong) records indexed.holders after vacant (free.holder strong) updates (has.holder strong)
@@ -265,6 +267,7 @@ module _ (key : ℕ) (one : KeyedRecord) (old new : Indexes) (others : SameOther
     indexed_less there updates gone = record {
       agents = named_less is_of_agent one.rec.agent key one (λ named. refl) old.by_agent new.by_agent others.agents records indexed.agents after there updates gone.agent;
       controllers = named_less is_of_controller one.rec.controller key one (λ named. refl) old.by_controller new.by_controller others.controllers records indexed.controllers after there updates gone.controller;
+      attrs = named_less is_of_attr one.rec.attr key one (λ named. refl) old.by_attr new.by_attr others.attrs records indexed.attrs after there updates gone.attr;
       opens = found_less open_cmp exact_open is_open key one (open_of one) (at_open one) old.by_open new.by_open others.opens records indexed.opens after there updates gone.opened;
       holders = elim (cases_Bool (is_strong one.rec)) [
         | inl strong ↦ found_less interface_cmp exact_interface is_holder key one (interface_of one) (holder_at one strong) old.holders new.holders (holders_others strong) records indexed.holders after there updates (gone.holder strong)
@@ -277,6 +280,7 @@ pub same_twice : (key : ℕ) (one : KeyedRecord) (old mid new : Indexes) → Sam
 same_twice key one old mid new first second = record {
   agents = λ q away. second.agents q away ∙ first.agents q away;
   controllers = λ q away. second.controllers q away ∙ first.controllers q away;
+  attrs = λ q away. second.attrs q away ∙ first.attrs q away;
   opens = λ q away. second.opens q away ∙ first.opens q away;
   holders = λ q away. second.holders q away ∙ first.holders q away;
 }
@@ -287,6 +291,7 @@ module _ (records after : Slab KeyedRecord) (all : (key : ℕ) → get after key
   indexed_same indexes indexed = record {
     agents = λ named key. indexed.agents named key ∙ ap (holds (is_of_agent named)) (sym (all key));
     controllers = λ named key. indexed.controllers named key ∙ ap (holds (is_of_controller named)) (sym (all key));
+    attrs = λ named key. indexed.attrs named key ∙ ap (holds (is_of_attr named)) (sym (all key));
     opens = λ query key. indexed.opens query key ∙ ap (holds (is_open query)) (sym (all key));
     holders = λ query key. indexed.holders query key ∙ ap (holds (is_holder query)) (sym (all key));
   }

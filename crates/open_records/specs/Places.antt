@@ -1,6 +1,8 @@
 -- Records by their places, as the code reaches them.
 use Rattle.std.specs.Prelude.{◌≡◌, Bool, ℕ, nat_eq, List, [], ◌∷◌, ◌++◌, map, if◌then◌else◌}
+use Rattle.std.specs.BTreeSet.{BTreeSet, contains}
 use Rattle.std.specs.List.{list_any}
+use Rattle.std.specs.Ordering.{nat_cmp}
 use Rattle.open_records.specs.Leaving.{with_places_from}
 use Rattle.open_records.specs.PuttingBack.{Gone}
 use Rattle.open_records.specs.declared.going.Going.{Going}
@@ -30,3 +32,7 @@ abbrev pub IsGoing : Going → List (ℕ × Rec) → Type 0
 IsGoing Nothing going = going ≡ []
 IsGoing (One place rec) going = going ≡ (place, rec) ∷ []
 IsGoing Many going = Unit {0}
+
+-- a set has exactly the numbers of a list
+abbrev pub HasSeen : List ℕ → BTreeSet ℕ → Type 0
+HasSeen found seen = (number : ℕ) → contains nat_cmp seen number ≡ list_any (λ other. nat_eq other number) found

@@ -21,7 +21,7 @@ use Rattle.open_records.specs.declared.indexes.Query.{Query}
 abbrev pub Interface : Type 0
 Interface = ℕ × List ℕ
 
--- a handle number that a record names, the record's interface, and its key
+-- a handle number that a record names, or its attribute; the record's interface, and its key
 abbrev pub Naming : Type 0
 Naming = ℕ × Interface × ℕ
 
@@ -57,6 +57,10 @@ is_of_agent named one = nat_eq one.rec.agent named.0 && is_on named.1 one
 
 abbrev pub is_of_controller : ℕ × Interface → KeyedRecord → Bool
 is_of_controller named one = nat_eq one.rec.controller named.0 && is_on named.1 one
+
+-- whether it is on an interface and has an attribute
+abbrev pub is_of_attr : ℕ × Interface → KeyedRecord → Bool
+is_of_attr named one = nat_eq one.rec.attr named.0 && is_on named.1 one
 
 -- whether it is on an interface with an agent, a controller and an attribute
 abbrev pub is_open : Open → KeyedRecord → Bool
@@ -178,6 +182,7 @@ pub record IsFirstNaming (name : ℕ) (from found : Interface) (index : set.BTre
 pub record IsIndexed (records : Slab KeyedRecord) (indexes : Indexes) : Type 0 where
   pub agents : NamesEach is_of_agent indexes.by_agent records
   pub controllers : NamesEach is_of_controller indexes.by_controller records
+  pub attrs : NamesEach is_of_attr indexes.by_attr records
   pub opens : FindsEach open_cmp is_open indexes.by_open records
   pub holders : FindsEach interface_cmp is_holder indexes.holders records
 
@@ -194,10 +199,14 @@ agent_naming key one = (one.rec.agent, interface_of one, key)
 abbrev pub controller_naming : ℕ → KeyedRecord → Naming
 controller_naming key one = (one.rec.controller, interface_of one, key)
 
+abbrev pub attr_naming : ℕ → KeyedRecord → Naming
+attr_naming key one = (one.rec.attr, interface_of one, key)
+
 -- what the indexes say of other records is as before
 pub record SameOthers (key : ℕ) (one : KeyedRecord) (old new : Indexes) : Type 0 where
   pub agents : (q : Naming) → tree.is_at (naming_cmp (agent_naming key one)) q ≡ false → set.contains naming_cmp new.by_agent q ≡ set.contains naming_cmp old.by_agent q
   pub controllers : (q : Naming) → tree.is_at (naming_cmp (controller_naming key one)) q ≡ false → set.contains naming_cmp new.by_controller q ≡ set.contains naming_cmp old.by_controller q
+  pub attrs : (q : Naming) → tree.is_at (naming_cmp (attr_naming key one)) q ≡ false → set.contains naming_cmp new.by_attr q ≡ set.contains naming_cmp old.by_attr q
   pub opens : (q : Open) → tree.is_at (open_cmp (open_of one)) q ≡ false → tree.get open_cmp new.by_open q ≡ tree.get open_cmp old.by_open q
   pub holders : (q : Interface) → (is_strong one.rec && tree.is_at (interface_cmp (interface_of one)) q) ≡ false → tree.get interface_cmp new.holders q ≡ tree.get interface_cmp old.holders q
 
@@ -205,6 +214,7 @@ pub record SameOthers (key : ℕ) (one : KeyedRecord) (old new : Indexes) : Type
 pub record HasIt (key : ℕ) (one : KeyedRecord) (indexes : Indexes) : Type 0 where
   pub agent : set.contains naming_cmp indexes.by_agent (agent_naming key one) ≡ true
   pub controller : set.contains naming_cmp indexes.by_controller (controller_naming key one) ≡ true
+  pub attr : set.contains naming_cmp indexes.by_attr (attr_naming key one) ≡ true
   pub opened : tree.get open_cmp indexes.by_open (open_of one) ≡ Some key
   pub holder : is_strong one.rec ≡ true → tree.get interface_cmp indexes.holders (interface_of one) ≡ Some key
 
@@ -212,5 +222,6 @@ pub record HasIt (key : ℕ) (one : KeyedRecord) (indexes : Indexes) : Type 0 wh
 pub record HasNone (key : ℕ) (one : KeyedRecord) (indexes : Indexes) : Type 0 where
   pub agent : set.contains naming_cmp indexes.by_agent (agent_naming key one) ≡ false
   pub controller : set.contains naming_cmp indexes.by_controller (controller_naming key one) ≡ false
+  pub attr : set.contains naming_cmp indexes.by_attr (attr_naming key one) ≡ false
   pub opened : tree.get open_cmp indexes.by_open (open_of one) ≡ None
   pub holder : is_strong one.rec ≡ true → tree.get interface_cmp indexes.holders (interface_of one) ≡ None

@@ -16,7 +16,7 @@ use std::ops::Bound;
 /// A handle and a protocol that it may have.
 pub type Interface = (Handle, Guid);
 
-/// A handle number that a record names, the record's interface, and its key.
+/// A handle number that a record names, or the bits of its attribute; the record's interface; and its key.
 pub type Naming = (u64, Interface, usize);
 
 /// What tells a record from every other: its interface, and its agent, its controller and the bits of its
@@ -30,6 +30,8 @@ pub struct Indexes {
     pub by_agent: BTreeSet<Naming>,
     /// By the controller, which may be 0, then by the interface.
     pub by_controller: BTreeSet<Naming>,
+    /// By the bits of the attribute, then by the interface.
+    pub by_attr: BTreeSet<Naming>,
     /// By interface, agent, controller and attribute.
     pub by_open: BTreeMap<Open, usize>,
     /// By the interface, of the records with BY_DRIVER or EXCLUSIVE.
@@ -41,12 +43,14 @@ impl Indexes {
     pub fn new(alloc: Global) -> Indexes
         ensures agents { IsEmptySet result.by_agent }
         ensures controllers { IsEmptySet result.by_controller }
+        ensures attrs { IsEmptySet result.by_attr }
         ensures opens { IsEmptyMap result.by_open }
         ensures holders { IsEmptyMap result.holders }
     {
         Indexes {
             by_agent: BTreeSet::new(alloc),
             by_controller: BTreeSet::new(alloc),
+            by_attr: BTreeSet::new(alloc),
             by_open: BTreeMap::new(alloc),
             holders: BTreeMap::new(alloc),
         }
@@ -60,6 +64,8 @@ impl Indexes {
         self.by_agent.insert((one.rec.agent, one.interface(), key))?;
         self.by_controller
             .insert((one.rec.controller, one.interface(), key))?;
+        let bits = u64::from(one.rec.attr.bits());
+        self.by_attr.insert((bits, one.interface(), key))?;
         self.by_open.insert(one.open(), key)?;
         if one.rec.is_strong() {
             self.holders.insert(one.interface(), key)?;
@@ -75,6 +81,8 @@ impl Indexes {
         self.by_agent.remove(&(one.rec.agent, one.interface(), key));
         self.by_controller
             .remove(&(one.rec.controller, one.interface(), key));
+        let bits = u64::from(one.rec.attr.bits());
+        self.by_attr.remove(&(bits, one.interface(), key));
         self.by_open.remove(&one.open());
         if one.rec.is_strong() {
             self.holders.remove(&one.interface());

@@ -16,6 +16,7 @@ mod adding;
 mod choices;
 mod fault;
 mod finding;
+mod found;
 mod going;
 mod indexes;
 mod laws;

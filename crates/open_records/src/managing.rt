@@ -1,13 +1,14 @@
 //! The children of a handle, and the agents that manage it.
 ghost use Rattle.std.specs.Prelude.{◌≡◌, true, IfOk, OnOk};
 ghost use Rattle.std.specs.Option.{option_to_list};
-ghost use Rattle.open_records.specs.OpenRecords.{stand_apart};
+ghost use Rattle.open_records.specs.OpenRecords.{records_of, stand_apart};
 ghost use Rattle.open_records.specs.Managing.{child_numbers, manager_numbers, once_each, records_on};
 ghost use Rattle.open_records.specs.Places.{joined, with_number};
 
+use crate::found::Found;
 use crate::open_record::Rec;
 use crate::table::Table;
-use fw_types::{Guid, Handle, OutOfMemory};
+use fw_types::{Attr, Guid, Handle, OutOfMemory};
 use std::alloc::Global;
 
 /// The children of a handle, by the protocols of the handle.
@@ -21,12 +22,11 @@ pub fn children_on(
     ensures { let records = records_on table.now handle protocols.now in
         IfOk result (λ found. found.items ≡ once_each (child_numbers agent records)) }
 {
-    let mut found = Vec::new(alloc);
+    let mut found = Found::new(alloc);
     for (guid, _, _) in protocols {
-        let mine = table.list(handle, *guid)?;
-        add_children(&mut found, mine.as_slice(), agent)?;
+        add_children_on(&mut found, table, handle, *guid, agent)?;
     }
-    Ok(found)
+    Ok(found.into_list())
 }
 
 /// The agents that manage a handle, by the protocols of the handle. A record with BY_DRIVER is the only one of
@@ -48,17 +48,32 @@ pub fn managers_on(
     Ok(found)
 }
 
-/// Puts the children that an interface's records name after others, if they are new.
-fn add_children(
-    found: &mut Vec<Handle>,
-    mine: &[Rec],
+/// Puts the children on an interface after others, if they are new. Walks over the interface's records only if
+/// one of them is BY_CHILD_CONTROLLER.
+fn add_children_on(
+    found: &mut Found,
+    table: &Table,
+    handle: Handle,
+    guid: Guid,
     agent: Option<u64>,
 ) -> Result<(), OutOfMemory>
-    ensures { OnOk result (found.new.items ≡ joined found.old.items (child_numbers agent mine.now)) }
+    ensures { let records = records_of table.now handle guid in
+        OnOk result (found.new ≡ joined found.old (child_numbers agent records)) }
+{
+    if !table.has_attr(handle, guid, Attr::BY_CHILD_CONTROLLER) {
+        return Ok(());
+    }
+    let mine = table.list(handle, guid)?;
+    add_children(found, mine.as_slice(), agent)
+}
+
+/// Puts the children that an interface's records name after others, if they are new.
+fn add_children(found: &mut Found, mine: &[Rec], agent: Option<u64>) -> Result<(), OutOfMemory>
+    ensures { OnOk result (found.new ≡ joined found.old (child_numbers agent mine.now)) }
 {
     for rec in mine {
         if let Some(child) = rec.child_of(agent) {
-            add_handle(found, child)?;
+            found.add(child)?;
         }
     }
     Ok(())
@@ -78,16 +93,6 @@ fn add_manager(found: &mut Vec<u64>, holder: Option<Rec>) -> Result<(), OutOfMem
         }
         None => Ok(()),
     }
-}
-
-/// Puts a handle after others, if it is new.
-fn add_handle(found: &mut Vec<Handle>, handle: Handle) -> Result<(), OutOfMemory>
-    ensures { OnOk result (found.new.items ≡ with_number handle found.old.items) }
-{
-    if !found.contains(&handle) {
-        found.push(handle)?;
-    }
-    Ok(())
 }
 
 /// Puts a number after others, if it is new.

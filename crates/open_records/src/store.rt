@@ -1,7 +1,7 @@
 //! The records under their keys, with the indexes by which the keys are found.
-ghost use Rattle.std.specs.Prelude.{◌≡◌, ◌≢◌, ◌+◌, ℕ, true, Some, None, IfOk, OnOk, OnErr, MatchOption, IfSome, IfNone, is_some, option_copied, option_map};
+ghost use Rattle.std.specs.Prelude.{◌≡◌, ◌≢◌, ◌+◌, ◌&&◌, ℕ, nat_eq, bytes_eq, true, Some, None, IfOk, OnOk, OnErr, MatchBool, MatchOption, IfSome, IfNone, is_some, option_copied, option_map};
 ghost use Rattle.slab.specs.Slab.{SameValues, Updates, get, slab_len};
-ghost use Rattle.open_records.specs.Store.{IsAsked, IsFirstNaming, IsFree, IsNextNamed, NoNaming, NoneAsked, NonePasses, OnlyPasses, is_holder, is_named_from, is_open, is_twin, earlier, recounted};
+ghost use Rattle.open_records.specs.Store.{IsAsked, IsFirstNaming, IsFree, IsNextNamed, NoNaming, NoneAsked, NonePasses, OnlyPasses, SomePasses, is_holder, is_named_from, is_of_attr, is_open, is_twin, earlier, recounted};
 ghost use Rattle.open_records.specs.Table.{left};
 
 use crate::indexes::{Indexes, Interface, Naming, Open, Query, first_asked};
@@ -104,6 +104,17 @@ impl Store {
         self.indexes.by_open.get(&query).copied()
     }
 
+    /// Whether a record of an interface has the attribute with these bits.
+    pub fn has_attr(&self, handle: Handle, guid: Guid, bits: u32) -> bool
+        ensures { MatchBool result (SomePasses (is_of_attr (bits, (handle, guid))) self.now)
+            (NonePasses (is_of_attr (bits, (handle, guid))) self.now) }
+    {
+        match first_naming(&self.indexes.by_attr, u64::from(bits), handle, guid) {
+            None => false,
+            Some(found) => is_same(found, handle, guid),
+        }
+    }
+
     /// The key of a record that a query asks for, other than one that is skipped, if there is one.
     pub fn asked(&self, query: &Query, skipped: Option<usize>) -> Option<usize>
         ensures { MatchOption result (NoneAsked query.now skipped self.now)
@@ -140,6 +151,13 @@ impl Store {
             self.indexes.forget(key, &one);
         }
     }
+}
+
+/// Whether an interface is a handle's with a GUID.
+fn is_same(interface: Interface, handle: Handle, guid: Guid) -> bool
+    ensures { result ≡ (nat_eq interface.0 handle && bytes_eq interface.1 guid) }
+{
+    interface.0 == handle && interface.1 == guid
 }
 
 /// Sets the count of the record under a key, if there is one.

@@ -11,6 +11,7 @@ ghost use Rattle.open_records.specs.PuttingBack.{count_in, counted, is_open, put
 ghost use Rattle.open_records.specs.Store.{is_asked, is_named_from};
 ghost use Rattle.open_records.specs.Table.{IsFirstOf, IsNamedOf, IsNew, IsNextOf, left, raised_keyed};
 ghost use Rattle.open_records.specs.declared.open_record.KeyedRecord.{KeyedRecord as KeyedValue};
+ghost use Rattle.open_records.specs.declared.open_record.Rec.{Rec as RecValue};
 
 use crate::choices::{Meant, Test};
 use crate::going::Going;
@@ -187,6 +188,14 @@ impl Table {
             None => any_chosen(&self.store, keys_of(&self.lists, (handle, guid)), meant),
             Some(query) => self.store.asked(&query, None).is_some(),
         }
+    }
+
+    /// Whether an interface has a record with the attribute of these bits.
+    pub fn has_attr(&self, handle: Handle, guid: Guid, bits: u32) -> bool
+        ensures { let test = λ (rec : RecValue). nat_eq rec.attr bits in
+            result ≡ list_any test (records_of self.now handle guid) }
+    {
+        self.store.has_attr(handle, guid, bits)
     }
 
     /// What goes if those of an interface's records go that are meant. Walks over them only if no agent is

@@ -6,5 +6,5 @@ use Rattle.open_records.proofs.managing.add_children.Given as goal
 -- what is found, with those of the rest, is the whole
 abbrev pub invariant-loop-rec : goal.invariant-loop-rec
 invariant-loop-rec l =
-    joined l.found.items (child_numbers l.agent (drop l.rec-index l.mine))
-    ≡ joined l.initial.found.items (child_numbers l.agent l.mine)
+    joined l.found (child_numbers l.agent (drop l.rec-index l.mine))
+    ≡ joined l.initial.found (child_numbers l.agent l.mine)

@@ -12,13 +12,12 @@ loop-guid-preserved c =
     let i = c.loop-guid.guid-index in
     let protocol = c.loop-guid-item.result in
     let within : i < length c.args.protocols.now = omega arith in
-    let step = children_at c.args.table.now c.args.handle c.args.protocols.now i protocol within c.loop-guid-item.is c.args.agent c.loop-guid.found.items in
-    let mine : c.add_children.new.found.items ≡ joined c.loop-guid.found.items (child_numbers c.args.agent (records_of c.args.table.now c.args.handle protocol.0)) =
-    c.in_ok-add_children.ensures ∙ ap (λ l. joined c.loop-guid.found.items (child_numbers c.args.agent l)) (c.as_slice.ensures.value ∙ c.in_ok-mine.ensures) in
+    let step = children_at c.args.table.now c.args.handle c.args.protocols.now i protocol within c.loop-guid-item.is c.args.agent c.loop-guid.found in
+    let mine : c.add_children_on.new.found ≡ joined c.loop-guid.found (child_numbers c.args.agent (records_of c.args.table.now c.args.handle protocol.0)) = c.in_ok-add_children_on.ensures in
     rw (add-one, mine) (sym step ∙ c.loop-guid.invariant)
 
 pub returns : goal.returns
 returns c =
     let none = drop_all c.loop-guid.guid-index c.args.protocols.now (omega arith) in
-    let rest = ap (λ l. joined c.loop-guid.found.items (child_numbers c.args.agent (records_on c.args.table.now c.args.handle l))) none in
-    sym rest ∙ c.loop-guid.invariant ∙ once_joined (child_numbers c.args.agent (records_on c.args.table.now c.args.handle c.args.protocols.now))
+    let rest = ap (λ l. joined c.loop-guid.found (child_numbers c.args.agent (records_on c.args.table.now c.args.handle l))) none in
+    c.into_list.ensures ∙ sym rest ∙ c.loop-guid.invariant ∙ once_joined (child_numbers c.args.agent (records_on c.args.table.now c.args.handle c.args.protocols.now))

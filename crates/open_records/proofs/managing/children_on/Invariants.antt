@@ -6,5 +6,5 @@ use Rattle.open_records.proofs.managing.children_on.Given as goal
 -- what is found, with what the other protocols give, is the whole
 abbrev pub invariant-loop-guid : goal.invariant-loop-guid
 invariant-loop-guid l =
-    joined l.found.items (child_numbers l.agent (records_on l.table l.handle (drop l.guid-index l.protocols)))
+    joined l.found (child_numbers l.agent (records_on l.table l.handle (drop l.guid-index l.protocols)))
     ≡ joined [] (child_numbers l.agent (records_on l.table l.handle l.protocols))
