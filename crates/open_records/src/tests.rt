@@ -1,5 +1,5 @@
-use crate::{RecFault, Records, Verdict, judge};
-use fw_types::{Attr, Guid, Handle, MOST_HANDLES, MOST_RECORDS};
+use crate::{Choice, Rec, RecFault, Records, Verdict, judge};
+use fw_types::{Attr, Guid, Handle, MOST_HANDLES, MOST_RECORDS, OutOfMemory};
 use handle_db::{Db, DbRefusal};
 use std::alloc::Global;
 use std::process::Abort;
@@ -248,6 +248,155 @@ fn sweeping_in(rt: &impl Abort, records: &mut Records) -> Result<(), Fail> {
     assert_eq!(rt; records.sweep(handle(rt, 6))?.len(), 0);
     assert_eq!(rt; records.list(handle(rt, 4), guid(2))?.len(), 1);
     assert_eq!(rt; records.list(handle(rt, 9), guid(1))?.len(), 0);
+    Ok(())
+}
+
+/// Takes records away, puts them back, and answers how many they were.
+fn there_and_back(records: &mut Records, choice: &Choice) -> Result<usize, OutOfMemory> {
+    records.soundness();
+    let gone = records.take(choice)?;
+    records.put_back(gone.as_slice())?;
+    Ok(gone.len())
+}
+
+/// The choice of a handle's second protocol, by agent and controller if they are given.
+fn of_interface(handle: Handle, agent: Option<u64>, controller: Option<u64>) -> Choice {
+    Choice::OfInterface {
+        handle,
+        guid: guid(2),
+        agent,
+        controller,
+        bits: Attr::ALL_BITS,
+    }
+}
+
+/// How many records each choice takes away, and that they are put back.
+#[test]
+fn putting_back(rt: HostRuntime) -> Result<(), Fail> {
+    let mut records = four(&rt, rt.alloc())?;
+    putting_back_in(&rt, &mut records)
+}
+
+fn putting_back_in(rt: &impl Abort, records: &mut Records) -> Result<(), Fail> {
+    let (four, six) = (handle(rt, 4), handle(rt, 6));
+    let cases: [(Choice, usize); 6] = [
+        (of_interface(four, None, None), 4),
+        (of_interface(four, Some(6), None), 3),
+        (of_interface(four, Some(6), Some(4)), 2),
+        (of_interface(four, Some(5), Some(7)), 1),
+        (of_interface(four, Some(5), Some(6)), 0),
+        (Choice::Naming { name: six }, 5),
+    ];
+    let before = records.list(four, guid(2))?;
+    for (choice, count) in cases {
+        assert_eq!(rt; there_and_back(records, &choice)?, count);
+        assert_eq!(rt; records.len(), 8);
+        let after = records.list(four, guid(2))?;
+        assert!(rt; is_left(before.as_slice(), after.as_slice(), 0xFFFF));
+    }
+    Ok(())
+}
+
+/// Whether of the records before exactly those are left, in their order, that do not name a handle.
+fn is_left(before: &[Rec], after: &[Rec], name: u64) -> bool {
+    let mut rest = after.iter().copied();
+    for rec in before {
+        let stays = rec.agent != name && rec.controller != name;
+        if stays && rest.next() != Some(*rec) {
+            return false;
+        }
+    }
+    rest.next().is_none()
+}
+
+/// 60,000 records of 300 agents on 300 handles, 200 of each handle.
+fn open_many(rt: &impl Abort, records: &mut Records) -> Result<(), RecFault> {
+    for number in 1..301 {
+        for agent in 301..601 {
+            if (number + agent) % 3 != 0 {
+                open(rt, records, (number, 1), (agent, 0, 0x01))?;
+            }
+        }
+    }
+    Ok(())
+}
+
+/// The sweep of one agent among many, and sweeps that find nothing.
+#[test]
+fn sweeping_many(rt: HostRuntime) -> Result<(), Fail> {
+    let mut records = Records::new(rt.alloc(), MOST_RECORDS);
+    sweeping_many_in(&rt, rt.alloc(), &mut records)
+}
+
+fn sweeping_many_in(rt: &impl Abort, alloc: Global, records: &mut Records) -> Result<(), Fail> {
+    open_many(rt, records)?;
+    assert_eq!(rt; records.len(), 60_000);
+    for _ in 0..2_000_000 {
+        assert_eq!(rt; records.sweep(handle(rt, 601))?.len(), 0);
+    }
+    let before = all_lists(rt, alloc, records)?;
+    assert_eq!(rt; records.sweep(handle(rt, 301))?.len(), 200);
+    let after = all_lists(rt, alloc, records)?;
+    for (was, is) in before.as_slice().iter().zip(after.as_slice()) {
+        assert!(rt; is_left(was.as_slice(), is.as_slice(), 301));
+    }
+    Ok(())
+}
+
+/// The records of the first protocol of the handles from 1 to 300.
+fn all_lists(
+    rt: &impl Abort,
+    alloc: Global,
+    records: &Records,
+) -> Result<Vec<Vec<Rec>>, OutOfMemory> {
+    let mut lists = Vec::new(alloc);
+    for number in 1..301 {
+        lists.push(records.list(handle(rt, number), guid(1))?)?;
+    }
+    Ok(lists)
+}
+
+/// Closes one record after another, from the first on and from the last on.
+#[test]
+fn closing_many(rt: HostRuntime) -> Result<(), Fail> {
+    let mut records = Records::new(rt.alloc(), MOST_RECORDS);
+    closing_many_in(&rt, &mut records)
+}
+
+fn closing_many_in(rt: &impl Abort, records: &mut Records) -> Result<(), Fail> {
+    for agent in 1..1001 {
+        open(rt, records, (3, 1), (agent, 7, 0x02))?;
+    }
+    let on = handle(rt, 3);
+    for turn in 1..501 {
+        close_one(rt, records, on, turn, 0)?;
+        close_one(
+            rt,
+            records,
+            on,
+            1001 - turn,
+            1000 - 2 * (turn as u32 - 1) - 2,
+        )?;
+    }
+    assert_eq!(rt; records.len(), 0);
+    Ok(())
+}
+
+/// Closes the only record of an agent, which has this place.
+fn close_one(
+    rt: &impl Abort,
+    records: &mut Records,
+    on: Handle,
+    agent: u64,
+    place: u32,
+) -> Result<(), Fail> {
+    assert!(rt; records.has_meant(on, guid(1), Some(agent), Some(7), Attr::ALL_BITS));
+    let list = records.cut(on, guid(1), Some(agent), Some(7), Attr::ALL_BITS)?;
+    assert_eq!(rt; list.len(), 1);
+    for (at, rec) in list {
+        assert_eq!(rt; (at, rec.agent), (place, agent));
+    }
+    assert!(rt; !records.has_meant(on, guid(1), Some(agent), Some(7), Attr::ALL_BITS));
     Ok(())
 }
 
