@@ -28,6 +28,7 @@ use Rattle.handle_db.specs.Installing.{install_answer, installed, is_full as is_
 use Rattle.handle_db.specs.Removing.{remove_answer, removed, removal_of}
 use Rattle.world_model.specs.declared.bus_child.BusChild.{BusChild}
 use Rattle.world_model.specs.declared.image.LoadedImage.{LoadedImage}
+use Rattle.world_model.specs.declared.thunk.Thunk.{Thunk}
 use Rattle.world_model.specs.World.{Soft}
 use Rattle.world_model.specs.Blocks.{block_room}
 use Rattle.world_model.specs.Records.{is_none_or_live, records_removed}
@@ -165,6 +166,15 @@ dropped_is soft number one found = ap (λ image. without_loaded image soft) foun
 pub kept_dropped : (soft : Soft) (number : ℕ) (one : LoadedImage) → IsKept soft → image_of number soft.images ≡ Some one
     → IsKept (record soft { memory = unmapped (unmapped soft.memory one.base) one.block; database = removed one.handle (known_guid LoadedImageProtocol) soft.database; records = records_removed one.handle (known_guid LoadedImageProtocol) (removed one.handle (known_guid LoadedImageProtocol) soft.database) soft.records; images = without_image one.handle soft.images; thunks = without_thunks (beginning_at soft.memory one.base) soft.thunks })
 kept_dropped soft number one kept found = subst IsKept (dropped_is soft number one found) (dropping soft number kept)
+
+-- without an image that is found, as the calls on the fields leave it, with the protocol as it is looked for
+pub kept_without : (soft : Soft) (number : ℕ) (one : LoadedImage) (guid : List ℕ) (result : Result Removed DbRefusal) (memory : List Segment) (db : Database) (records : RecordTable) (images : List LoadedImage) (thunks : List Thunk)
+    → IsKept soft → image_of number soft.images ≡ Some one → guid ≡ known_guid LoadedImageProtocol → result ≡ remove_answer one.handle guid soft.database → OnOk result (db ≡ removed one.handle guid soft.database)
+    → memory ≡ unmapped (unmapped soft.memory one.base) one.block → records ≡ records_removed one.handle guid db soft.records → images ≡ without_image one.handle soft.images → thunks ≡ without_thunks (beginning_at soft.memory one.base) soft.thunks
+    → IsKept (record soft { memory = memory; database = db; records = records; images = images; thunks = thunks })
+kept_without soft number one guid result memory db records images thunks kept found known answer ok memory_is records_is images_is thunks_is =
+    let db_is : db ≡ removed one.handle (known_guid LoadedImageProtocol) soft.database = db_dropped soft number one result db kept found (rw known at answer) (rw known at ok) in
+    rw (records_is, memory_is, images_is, thunks_is, db_is, known) (kept_dropped soft number one kept found)
 
 -- ---- children of the bus
 

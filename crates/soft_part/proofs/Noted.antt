@@ -1,10 +1,9 @@
 -- Changes of the records, and those that take interfaces with their records, as the calls on the fields make them.
-use Rattle.std.proofs.Common.{◌≡◌, ◌≤◌, ℕ, Bool, true, false, not, List, [], ◌∷◌, filter, Option, Some, refl, sym, ap, ◌∙◌}
+use Rattle.std.proofs.Common.{◌≡◌, ℕ, Bool, true, false, not, List, filter, Option, Some, refl, sym, ap, ◌∙◌}
 use Rattle.std.specs.Prelude.{Result, Ok, Err, OnOk}
 use Rattle.std.specs.Result.{is_err}
 use Rattle.std.specs.List.{position_or_len}
 use Rattle.fw_types.specs.declared.memory.OutOfMemory.{OutOfMemory}
-use Rattle.fw_types.specs.declared.limits.TheConstants.{MOST_RECORDS}
 use Rattle.fw_types.specs.Guid.{known_guid}
 use Rattle.fw_types.specs.declared.guid.Known.TheVariants.{LoadedImage as LoadedImageProtocol}
 use Rattle.guest_memory.specs.declared.segment.Segment.{Segment}
@@ -21,7 +20,7 @@ use Rattle.world_model.specs.declared.change.Change.TheVariants.{Uninstall, Drop
 use Rattle.world_model.specs.declared.image.LoadedImage.{LoadedImage}
 use Rattle.world_model.specs.declared.thunk.Thunk.{Thunk}
 use Rattle.world_model.specs.BusChildren.{children_left}
-use Rattle.world_model.specs.Images.{image_dropped, image_of, without_image}
+use Rattle.world_model.specs.Images.{image_of, without_image}
 use Rattle.world_model.specs.Kept.{IsKept}
 use Rattle.world_model.specs.Records.{records_removed}
 use Rattle.world_model.specs.Thunks.{enters, without_thunks}
@@ -48,7 +47,7 @@ pub noted_uninstall : (soft : Soft) (handle : ℕ) (guid : List ℕ) (r : Remove
     → remove_answer handle guid soft.database ≡ Ok r → db ≡ removed handle guid soft.database
     → gone ≡ gone_by (picks (WithInterface handle guid (not (is_live handle db)))) soft.records.entries → records ≡ records_removed handle guid db soft.records
     → child ≡ child_gone handle guid soft.bus_children → children ≡ children_left handle guid soft.bus_children
-    → IsNoted (Uninstall handle guid r gone child) soft (record soft { database = db; records = records; bus_children = children })
+    → IsNoted (Uninstall (record { handle = handle; guid = guid; removed = r; gone = gone; child = child })) soft (record soft { database = db; records = records; bus_children = children })
 noted_uninstall soft handle guid r gone child db records children kept answer db_is listed records_is child_is children_is =
     let live : is_live handle db ≡ not r.gone = ap (is_live handle) db_is ∙ (removal_undone handle guid r soft.database kept.database.sound answer).0.live in
     let all : gone ≡ gone_with handle guid r soft.records = gone_is handle guid r db soft.records gone live listed in

@@ -1,6 +1,6 @@
 -- Places in lists.
-use Rattle.std.proofs.Common.{◌≡◌, ◌≤◌, ◌<◌, ℕ, ◌+◌, min, Bool, true, false, not, cond, nat_le, nat_lt, List, [], ◌∷◌, length, Option, Some, None, refl, sym, ap, ◌∙◌, suc, zero, arith}
-use Rattle.std.specs.Prelude.{insert, unwrap_or, if◌then◌else◌}
+use Rattle.std.proofs.Common.{◌≡◌, ◌≤◌, ℕ, Bool, true, false, cond, nat_le, nat_lt, List, [], ◌∷◌, length, Some, None, refl, ap, arith}
+use Rattle.std.specs.Prelude.{insert, unwrap_or}
 use Rattle.std.specs.List.{position, position_or_len}
 use Rattle.std.proofs.Math.Numerals.{one-add}
 use Rattle.std.proofs.lemmas.Bool.Decides.{nat_tests}
@@ -23,19 +23,6 @@ placed_more place size false is le = grind (arith, nat_tests, is, le)
 -- the place, or the length if no element passes
 pub placed : {X : Type 0} (test : X → Bool) (xs : List X) → unwrap_or (position test xs) (length xs) ≡ position_or_len test xs
 placed test xs = placed_more (position_or_len test xs) (length xs) (nat_lt (position_or_len test xs) (length xs)) refl (place_within test xs)
-
--- behind the end is at the end
-pub insert-cap : {X : Type 0} (xs : List X) (k : ℕ) (x : X) → insert xs k x ≡ insert xs (min k (length xs)) x
-insert-cap [] zero x = refl
-insert-cap {X = X} [] (suc k) x =
-    let none : min (suc k) (length {A = X} []) ≡ 0 = omega arith in
-    rw none refl
-insert-cap (y ∷ xs) zero x =
-    let none : min 0 (suc (length xs)) ≡ 0 = omega arith in
-    rw none refl
-insert-cap (y ∷ xs) (suc k) x =
-    let more : min (suc k) (suc (length xs)) ≡ suc (min k (length xs)) = omega arith in
-    rw more (ap (λ others. y ∷ others) (insert-cap xs k x))
 
 by_number-more : (new thunk : Thunk) (thunks : List Thunk) (before : Bool) → nat_lt thunk.number new.number ≡ before
     → with_thunk new thunks ≡ insert thunks (position_or_len (λ (t : Thunk). nat_le new.number t.number) thunks) new

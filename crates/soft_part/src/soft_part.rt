@@ -55,7 +55,9 @@ use open_records::{Choice, Gone, RecFault, Records};
 use std::alloc::Global;
 use std::marker::Model;
 use std::mem;
-use world_model::{BusChild, Change, DroppedImage, LoadedImage, StackLevels, Thunk, WorldFault};
+use world_model::{
+    Boxed, BusChild, Change, DroppedImage, LoadedImage, StackLevels, Thunk, Uninstalled, WorldFault,
+};
 
 /// The size of a loaded image block.
 const BLOCK_SIZE: u64 = 96;
@@ -314,12 +316,15 @@ impl SoftPart {
         let gone = take_records(&mut self.records, &self.database, handle, guid);
         let child = take_child(&mut self.plain.bus_children, handle, guid);
         let gone = Rows::of(gone?);
-        Ok(Change::Uninstall {
+        let went = Uninstalled {
             handle,
             guid,
             removed,
             gone,
             child,
+        };
+        Ok(Change::Uninstall {
+            went: Boxed::new(self.alloc, went)?,
         })
     }
 
@@ -496,7 +501,9 @@ impl SoftPart {
             gone,
             thunks: Rows::of(thunks),
         };
-        Ok(Change::DropImage { dropped })
+        Ok(Change::DropImage {
+            dropped: Boxed::new(self.alloc, dropped)?,
+        })
     }
 
     /// Removes an image with all that belongs to it, in one sweep. If the handle is not that of an
@@ -800,13 +807,7 @@ impl SoftPart {
                 self.uninstall_last(handle, guid, made);
                 Ok(())
             }
-            Change::Uninstall {
-                handle,
-                guid,
-                removed,
-                gone,
-                child,
-            } => self.reinstall(handle, guid, &removed, gone.as_slice(), child),
+            Change::Uninstall { went } => self.reinstall(&went.unboxed()),
             Change::Enter {
                 handle,
                 guid,
@@ -819,7 +820,7 @@ impl SoftPart {
                 Ok(())
             }
             Change::Leave { gone } => self.put_records_back(gone.as_slice()),
-            Change::DropImage { dropped } => self.remap_image(dropped),
+            Change::DropImage { dropped } => self.remap_image(dropped.unboxed()),
             Change::AddImage { image } => {
                 self.unmake_image(image);
                 Ok(())
@@ -884,26 +885,19 @@ impl SoftPart {
     /// # Errors
     ///
     /// `OutOfMemory` if there is no memory. The records and the children of the bus are then given up.
-    fn reinstall(
-        &mut self,
-        handle: Handle,
-        guid: Guid,
-        removed: &Removed,
-        gone: &[Gone],
-        child: Option<(usize, BusChild)>,
-    ) -> Result<(), OutOfMemory>
-        requires kept { IsKept (taken_back
-            (Change.Uninstall handle guid removed.now gone.now child) self.old) }
-        requires room { HasRoomFor handle guid removed.now self.old.database }
-        ensures { OnOk result (self.new ≡
-            taken_back (Change.Uninstall handle guid removed.now gone.now child) self.old) }
+    fn reinstall(&mut self, went: &Uninstalled) -> Result<(), OutOfMemory>
+        requires kept { IsKept (taken_back (Change.Uninstall went.now) self.old) }
+        requires room { HasRoomFor went.now.handle went.now.guid went.now.removed
+            self.old.database }
+        ensures { OnOk result (self.new ≡ taken_back (Change.Uninstall went.now) self.old) }
     {
         let none = Records::new(self.alloc, MOST_RECORDS);
         let mut records = mem::replace(&mut self.records, none);
         let mut children = mem::replace(&mut self.plain.bus_children, Vec::new(self.alloc));
-        records.put_back(gone)?;
-        put_child(&mut children, child)?;
-        self.database.undo_remove(handle, guid, removed)?;
+        records.put_back(went.gone.as_slice())?;
+        put_child(&mut children, went.child)?;
+        self.database
+            .undo_remove(went.handle, went.guid, &went.removed)?;
         self.records = records;
         self.plain.bus_children = children;
         Ok(())

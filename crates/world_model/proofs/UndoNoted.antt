@@ -274,7 +274,7 @@ beside p (Allot at) soft lies passes =
 beside p (Free segment) soft lies passes =
     ap (λ (memory : List Segment). with_memory memory soft) (sym (at-mapped p 0 segment soft.memory (lies_rise 0 soft.memory lies) (and_parts (p segment.base) true passes).0))
 beside p (Install handle guid made) soft lies passes = refl
-beside p (Uninstall handle guid removed gone child) soft lies passes = refl
+beside p (Uninstall went) soft lies passes = refl
 beside p (Enter handle guid agent controller attr before) soft lies passes = refl
 beside p (Leave gone) soft lies passes = refl
 beside p (DropImage dropped) soft lies passes =

@@ -52,10 +52,10 @@ taken_back (Put at before) soft = with_memory (put_if_there at before soft.memor
 taken_back (Allot at) soft = record soft { memory = unmapped soft.memory at; next_block = at }
 taken_back (Free segment) soft = with_memory (mapped segment soft.memory) soft
 taken_back (Install handle guid made) soft = record soft { database = install_undone handle guid made soft.database }
-taken_back (Uninstall handle guid removed gone child) soft = record soft {
-  database = remove_undone handle guid removed soft.database;
-  records = put_back gone soft.records;
-  bus_children = with_child child soft.bus_children;
+taken_back (Uninstall went) soft = record soft {
+  database = remove_undone went.handle went.guid went.removed soft.database;
+  records = put_back went.gone soft.records;
+  bus_children = with_child went.child soft.bus_children;
 }
 taken_back (Enter handle guid agent controller attr before) soft = with_records (count_set handle guid agent controller attr before soft.records) soft
 taken_back (Leave gone) soft = with_records (put_back gone soft.records) soft

@@ -47,7 +47,7 @@ addresses_in (Put at before) = []
 addresses_in (Allot at) = at ∷ []
 addresses_in (Free segment) = segment.base ∷ []
 addresses_in (Install handle guid made) = []
-addresses_in (Uninstall handle guid removed gone child) = []
+addresses_in (Uninstall went) = []
 addresses_in (Enter handle guid agent controller attr before) = []
 addresses_in (Leave gone) = []
 addresses_in (DropImage dropped) = dropped.segment.base ∷ dropped.block.base ∷ []
@@ -64,7 +64,7 @@ Fits (Put at before) db = Unit {0}
 Fits (Allot at) db = Unit {0}
 Fits (Free segment) db = Unit {0}
 Fits (Install handle guid made) db = IsInstalledLast handle guid made db
-Fits (Uninstall handle guid removed gone child) db = HasRoomFor handle guid removed db
+Fits (Uninstall went) db = HasRoomFor went.handle went.guid went.removed db
 Fits (Enter handle guid agent controller attr before) db = Unit {0}
 Fits (Leave gone) db = Unit {0}
 Fits (DropImage dropped) db = HasRoomFor dropped.image.handle (known_guid LoadedImageProtocol) dropped.removed db
@@ -134,7 +134,8 @@ gone_with handle guid removed table = gone_by (picks (WithInterface handle guid 
 abbrev pub UninstallIsNoted : Type 0
 UninstallIsNoted =
     (soft : Soft) (handle : ℕ) (guid : List ℕ) (removed : Removed) → IsKept soft → remove_answer handle guid soft.database ≡ Ok removed
-    → IsNoted (Uninstall handle guid removed (gone_with handle guid removed soft.records) (child_gone handle guid soft.bus_children)) soft (interface_removed handle guid soft)
+    → IsNoted (Uninstall (record { handle = handle; guid = guid; removed = removed; gone = gone_with handle guid removed soft.records; child = child_gone handle guid soft.bus_children })) soft
+    (interface_removed handle guid soft)
 
 abbrev pub EnterIsNoted : Type 0
 EnterIsNoted =

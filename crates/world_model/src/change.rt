@@ -1,3 +1,4 @@
+use crate::boxed::Boxed;
 use crate::bus_child::BusChild;
 use crate::image::LoadedImage;
 use crate::thunk::Thunk;
@@ -5,6 +6,21 @@ use fw_types::{Attr, Guid, Handle, Rows};
 use guest_memory::Segment;
 use handle_db::Removed;
 use open_records::Gone;
+
+/// An interface that was uninstalled, with what went with it.
+#[derive(Drop)]
+pub struct Uninstalled {
+    /// Its handle.
+    pub handle: Handle,
+    /// Its protocol.
+    pub guid: Guid,
+    /// What it was.
+    pub removed: Removed,
+    /// The open records that went with it.
+    pub gone: Rows<Gone>,
+    /// The child of the bus that went with it, and its place among the others.
+    pub child: Option<(usize, BusChild)>,
+}
 
 /// An image that was dropped, with what belonged to it.
 #[derive(Drop)]
@@ -25,7 +41,8 @@ pub struct DroppedImage {
     pub thunks: Rows<Thunk>,
 }
 
-/// A change of the soft part that was made, with what it takes to take it back.
+/// A change of the soft part that was made, with what it takes to take it back. The two that take most are
+/// boxed, since a log keeps as much for each change as for the largest.
 #[derive(Drop)]
 pub enum Change {
     /// The task priority level was set.
@@ -70,16 +87,8 @@ pub enum Change {
     },
     /// An interface was uninstalled.
     Uninstall {
-        /// Its handle.
-        handle: Handle,
-        /// Its protocol.
-        guid: Guid,
-        /// What it was.
-        removed: Removed,
-        /// The open records that went with it.
-        gone: Rows<Gone>,
-        /// The child of the bus that went with it, and its place among the others.
-        child: Option<(usize, BusChild)>,
+        /// What went.
+        went: Boxed<Uninstalled>,
     },
     /// An open was entered.
     Enter {
@@ -104,7 +113,7 @@ pub enum Change {
     /// An image was dropped.
     DropImage {
         /// What went.
-        dropped: DroppedImage,
+        dropped: Boxed<DroppedImage>,
     },
     /// An image was added.
     AddImage {

@@ -1,4 +1,4 @@
-use Rattle.std.proofs.Common.{ap, length, nat_le, Option, ℕ, ◌∙◌}
+use Rattle.std.proofs.Common.{ap, length, Option, ℕ, ◌∙◌}
 use Rattle.std.specs.Prelude.{unwrap_or}
 use Rattle.world_model.specs.UndoLaws.{is_of_handle}
 use Rattle.soft_part.proofs.Placing.{placed}

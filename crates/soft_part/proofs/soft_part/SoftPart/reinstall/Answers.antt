@@ -11,23 +11,23 @@ unfolding taken_back
 put_back-requires c =
     let inside = c.self.inside in
     let soft : Soft = soft_of inside.memory inside.database inside.records inside.plain in
-    let change = Uninstall c.args.handle c.args.guid c.args.removed.now c.args.gone.now c.args.child in
+    let change = Uninstall c.args.went.now in
     let kept : IsKept (taken_back change soft) = subst (λ (s : Soft). IsKept (taken_back change s)) (sym c.self.view_is) c.requires.kept in
-    rw c.replace-records.ensures.value (kept.records.sound)
+    rw (c.as_slice.ensures, c.replace-records.ensures.value) (kept.records.sound)
 
 pub invariant_of-self-2 : goal.invariant_of-self-2
 unfolding taken_back
 invariant_of-self-2 c =
     let inside = c.self.inside in
     let soft : Soft = soft_of inside.memory inside.database inside.records inside.plain in
-    let change = Uninstall c.args.handle c.args.guid c.args.removed.now c.args.gone.now c.args.child in
+    let change = Uninstall c.args.went.now in
     let kept : IsKept (taken_back change soft) = subst (λ (s : Soft). IsKept (taken_back change s)) (sym c.self.view_is) c.requires.kept in
-    let children : c.put_child.new.children.items ≡ with_child c.args.child inside.plain.bus_children.items = c.in_ok-put_child.ensures.ok ∙ ap (λ v. with_child c.args.child v.items) c.replace-children.ensures.value in
-    rw (c.in_ok-undo_remove.ensures.ok, c.in_ok-put_back.ensures, c.replace-records.ensures.value, children) kept
+    let children : c.put_child.new.children.items ≡ with_child c.args.went.now.child inside.plain.bus_children.items = c.in_ok-put_child.ensures.ok ∙ ap (λ v. with_child c.args.went.now.child v.items) c.replace-children.ensures.value in
+    rw (c.in_ok-undo_remove.ensures.ok, c.in_ok-put_back.ensures, c.as_slice.ensures, c.replace-records.ensures.value, children) kept
 
 pub returns : goal.returns
 unfolding taken_back
 returns c =
     let inside = c.self.inside in
-    let children : c.put_child.new.children.items ≡ with_child c.args.child inside.plain.bus_children.items = c.in_ok-put_child.ensures.ok ∙ ap (λ v. with_child c.args.child v.items) c.replace-children.ensures.value in
-    rw (c.in_ok-undo_remove.ensures.ok, c.in_ok-put_back.ensures, c.replace-records.ensures.value, children, ← c.self.view_is) refl
+    let children : c.put_child.new.children.items ≡ with_child c.args.went.now.child inside.plain.bus_children.items = c.in_ok-put_child.ensures.ok ∙ ap (λ v. with_child c.args.went.now.child v.items) c.replace-children.ensures.value in
+    rw (c.in_ok-undo_remove.ensures.ok, c.in_ok-put_back.ensures, c.as_slice.ensures, c.replace-records.ensures.value, children, ← c.self.view_is) refl

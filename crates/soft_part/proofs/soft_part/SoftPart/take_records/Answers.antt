@@ -1,6 +1,3 @@
-use Rattle.std.proofs.Common.{◌≡◌, ap, sym, subst, ◌∙◌, refl, not, List, filter}
-use Rattle.std.specs.Prelude.{IfOk}
-use Rattle.open_records.specs.PuttingBack.{Gone, gone_by, picks}
 use Rattle.world_model.specs.World.{Soft}
 use Rattle.soft_part.specs.Soft.{soft_of}
 use Rattle.soft_part.proofs.Keeps.{kept_taken}

@@ -13,6 +13,13 @@ invariant_of-self-in_err-gone c =
     rw (c.take_records-gone.ensures.records, c.take_child-child.ensures.left, c.in_ok-removed.ensures.ok)
     (uninstalling soft c.args.handle c.args.guid c.self.invariant (ap (λ (s : Soft). is_lasting c.args.handle c.args.guid s) c.self.view_is ∙ c.requires))
 
+pub invariant_of-self-in_err-new : goal.invariant_of-self-in_err-new
+invariant_of-self-in_err-new c =
+    let inside = c.self.inside in
+    let soft : Soft = soft_of inside.memory inside.database inside.records inside.plain in
+    rw (c.take_records-gone.ensures.records, c.take_child-child.ensures.left, c.in_ok-removed.ensures.ok)
+    (uninstalling soft c.args.handle c.args.guid c.self.invariant (ap (λ (s : Soft). is_lasting c.args.handle c.args.guid s) c.self.view_is ∙ c.requires))
+
 pub invariant_of-self-2 : goal.invariant_of-self-2
 invariant_of-self-2 c =
     let inside = c.self.inside in
@@ -24,6 +31,6 @@ pub returns-clause-noted : goal.returns-clause-noted
 returns-clause-noted c =
     let inside = c.self.inside in
     let soft : Soft = soft_of inside.memory inside.database inside.records inside.plain in
-    rw (← c.self.view_is)
+    rw (c.in_ok-new.ensures, ← c.self.view_is)
     (noted_uninstall soft c.args.handle c.args.guid c.in_ok-removed.removed c.of-gone.result c.take_child-child.result c.remove.new.self c.take_records-gone.new.records c.take_child-child.new.children.items c.self.invariant
     (sym c.in_ok-removed.ensures.answer) c.in_ok-removed.ensures.ok (c.of-gone.ensures ∙ c.in_ok-gone.ensures.gone) c.take_records-gone.ensures.records c.take_child-child.ensures.gone c.take_child-child.ensures.left)
