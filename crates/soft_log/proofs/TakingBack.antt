@@ -123,11 +123,12 @@ all_taken [] soft kept are same is = refl
 all_taken (newest ∷ older) soft kept are same is =
     ap (λ (changes : List Change). kept_by newest.carried changes soft) (none newest.changes is) ∙ nothing_newer newest older soft kept are same
 
--- no mark is open if none keeps anything
-pub no_marks : (marks : List (Section Change StackLevels)) (soft : Soft) → kept_from [] marks soft ≡ [] → marks ≡ []
-unfolding kept_from
-no_marks [] soft is = refl
-no_marks (newest ∷ older) soft is = absurd cc
+-- if no mark keeps anything, none is open, so none keeps anything of whatever becomes of the soft part
+pub none_kept : (marks : List (Section Change StackLevels)) (soft after : Soft) (kept : List Soft) → kept_from [] marks soft ≡ kept → kept ≡ []
+    → AreKept [] marks after × (kept_from [] marks after ≡ kept)
+unfolding kept_from AreKept
+none_kept [] soft after kept is none = (tt, sym none)
+none_kept (newest ∷ older) soft after kept is none = absurd cc
 
 pub length-kept_from : (later : List Change) (marks : List (Section Change StackLevels)) (soft : Soft) → length (kept_from later marks soft) ≡ length marks
 unfolding kept_from

@@ -1,4 +1,4 @@
-use Rattle.std.proofs.Common.{◌≡◌, List, [], ap, sym, subst, ◌∙◌}
+use Rattle.std.proofs.Common.{List, [], ap, sym, subst, ◌∙◌}
 use Rattle.undo_log.specs.Log.{Section}
 use Rattle.world_model.specs.declared.change.Change.{Change}
 use Rattle.world_model.specs.declared.stack_levels.StackLevels.{StackLevels}

@@ -1,20 +1,10 @@
-use Rattle.std.proofs.Common.{◌≡◌, ℕ, ◌+◌, true, false, List, length, replicate, take, ap, sym, subst, ◌∙◌}
-use Rattle.std.specs.Prelude.{Ok, not, is_ok, is_some, unwrap_or, Result}
-use Rattle.handle_db.specs.Installing.{install_refusals}
-use Rattle.std.proofs.lemmas.List.{length-replicate}
-use Rattle.guest_memory.specs.declared.segment.Segment.{Segment}
-use Rattle.guest_memory.specs.GuestMemory.{bytes_of, is_readable, is_writable_range, put_bytes, write_answer, written}
-use Rattle.handle_db.specs.declared.handle_entry.Interface.{Interface}
+use Rattle.std.proofs.Common.{ap, ◌∙◌}
 use Rattle.world_model.specs.declared.change.Change.{Change}
 use Rattle.world_model.specs.declared.change.Change.TheVariants.{MakeThunk}
-use Rattle.world_model.specs.World.{Soft, with_memory}
-use Rattle.world_model.specs.Blocks.{is_block_full}
-use Rattle.world_model.specs.Interfaces.{install_answer, interface}
-use Rattle.world_model.specs.Images.{is_image_full, next_loaded}
 use Rattle.world_model.specs.UndoLaws.{IsNoted}
 use Rattle.world_model.proofs.UndoNoted.{thunk_is_noted}
 use Rattle.soft_log.specs.Keeping.{MarkedSoft}
-use Rattle.soft_log.proofs.Noting.{are_noted, flipped, kept_noted, made_at, readable_written, room_made, unless_value}
+use Rattle.soft_log.proofs.Noting.{are_noted, kept_noted}
 use Rattle.soft_log.proofs.soft_log.SoftLog.make_thunk.Goals as goal
 
 pub invariant_of-self-2 : goal.invariant_of-self-2

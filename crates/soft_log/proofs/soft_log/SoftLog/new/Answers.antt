@@ -1,14 +1,8 @@
-use Rattle.std.proofs.Common.{◌≡◌, ◌<◌, ℕ, false, List, [], ◌∷◌, length, refl, ap, sym, subst, ◌∙◌}
-use Rattle.fw_types.specs.declared.limits.TheConstants.{MOST_MARKS}
-use Rattle.undo_log.specs.Log.{LogView, Section, committed, marked}
+use Rattle.std.proofs.Common.{List, [], refl, sym, subst}
+use Rattle.undo_log.specs.Log.{Section}
 use Rattle.world_model.specs.declared.change.Change.{Change}
 use Rattle.world_model.specs.declared.stack_levels.StackLevels.{StackLevels}
-use Rattle.world_model.specs.World.{Soft}
-use Rattle.world_model.specs.Marks.{older_marks}
-use Rattle.world_model.specs.Stacks.{has_stack, is_marked_stack}
-use Rattle.soft_log.specs.Keeping.{AreKept, MarkedSoft, kept_from}
-use Rattle.soft_log.proofs.StacksLeftOut.{popped, pushed}
-use Rattle.soft_log.proofs.TakingBack.{are_committed, are_marked, kept_committed, kept_marked, length-kept_from, no_marks}
+use Rattle.soft_log.specs.Keeping.{AreKept, kept_from}
 use Rattle.soft_log.proofs.soft_log.SoftLog.new.Goals as goal
 
 pub invariant_of-result : goal.invariant_of-result

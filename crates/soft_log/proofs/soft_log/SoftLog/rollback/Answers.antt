@@ -1,4 +1,4 @@
-use Rattle.std.proofs.Common.{◌≡◌, List, [], length, Some, None, sym, ap, subst, ◌∙◌}
+use Rattle.std.proofs.Common.{◌≡◌, List, [], length, Some, sym, ap, subst, ◌∙◌}
 use Rattle.undo_log.specs.Log.{Section, last_change, without_last}
 use Rattle.world_model.specs.declared.change.Change.{Change}
 use Rattle.world_model.specs.declared.stack_levels.StackLevels.{StackLevels}
