@@ -9,7 +9,7 @@ ghost use Rattle.world_model.specs.Records.{all_left, child_left, is_none_or_liv
 ghost use Rattle.fw_types.specs.declared.limits.TheConstants.{MOST_LEVELS as most_levels, MOST_LISTED as most_listed, MOST_MARKS as most_marks};
 ghost use Rattle.world_model.specs.World.{on_hard, on_soft, with_memory, with_tpl};
 ghost use Rattle.world_model.specs.Faults.{Gives};
-ghost use Rattle.world_model.specs.Blocks.{allot_answer, block_added, block_freed, free_answer};
+ghost use Rattle.world_model.specs.Blocks.{allot_answer, block_added, block_freed, free_answer, is_block_full};
 ghost use Rattle.world_model.specs.Interfaces.{install_answer, interface as interface_value, interface_added, interface_removed, is_lasting, uninstall_answer};
 ghost use Rattle.world_model.specs.Images.{add_answer, block_size, drop_answer, entry_of as entry_value, image_added, image_at as image_value, image_dropped, image_of, is_image_full};
 ghost use Rattle.world_model.specs.ImageSweep.{image_swept};
@@ -323,6 +323,14 @@ impl World {
         ensures refused { AsBefore result self.old self.new }
     {
         self.soft.allot(bytes, kind)
+    }
+
+    /// Whether one more block of so many bytes passes a limit: the error `Full` of `allot`. Takes no
+    /// memory.
+    pub fn is_block_full(&self, size: u64) -> bool
+        ensures { result ≡ is_block_full size self.now.now.soft }
+    {
+        self.soft.soft().is_block_full(size)
     }
 
     /// Removes the block of the kind that begins at an address. `kind` is `Pool` or `Firmware`.

@@ -1,12 +1,15 @@
 //! What services write into buffers and into blocks of the pool: handles, open records, protocols.
-ghost use Rattle.std.specs.Prelude.{◌≡◌, ◌≤◌, ◌++◌, ◌*◌, IfOk, OnOk, length, true};
+ghost use Rattle.std.specs.Prelude.{◌≡◌, ◌≤◌, ◌++◌, ◌*◌, ◌<◌, ◌^◌, IfOk, OnOk, length, true};
 ghost use Rattle.byteorder.specs.Endian.{little_bytes};
 ghost use Rattle.uuid.specs.Parts.{swap_fields};
 ghost use Rattle.guest_memory.specs.GuestMemory.{is_writable_range};
 ghost use Rattle.service_model.specs.Allowed.{is_allowed};
-ghost use Rattle.service_model.specs.Changes.{both_stored, applied};
+ghost use Rattle.service_model.specs.Changes.{block_allotted, both_stored, applied};
 ghost use Rattle.service_model.specs.Contents.{contents_bytes, contents_count, names_bytes, number_bytes, name_places, record_bytes, records_bytes};
+ghost use Rattle.handle_db.specs.Database.{protocols_of};
 ghost use Rattle.leaf_services.specs.Names.{names_alone, names_in};
+ghost use Rattle.leaf_services.specs.Sizes.{item_size};
+ghost use Rattle.leaf_services.specs.Writable.{StaysWritable};
 
 use crate::storing::{allot, store, with_status};
 use fw_types::{Guid, Handle, MOST_INTERFACES, OutOfMemory, Status};
@@ -33,15 +36,25 @@ fn add_half(bytes: &mut Vec<u8>, number: u32) -> Result<(), OutOfMemory>
     Ok(())
 }
 
+/// Appends handles in 8 bytes each.
+fn add_handles(bytes: &mut Vec<u8>, handles: &[Handle]) -> Result<(), OutOfMemory>
+    ensures { OnOk result (bytes.new.items ≡ bytes.old.items ++ number_bytes handles.now) }
+{
+    for handle in handles {
+        add_number(bytes, handle.get())?;
+    }
+    Ok(())
+}
+
 /// Handles in 8 bytes each.
+#[tactic(auto, using(crate::proofs::BlockContents::length_of_numbers))]
 fn handle_bytes(alloc: Global, handles: &[Handle]) -> Result<Vec<u8>, OutOfMemory>
+    requires { length handles.now < 2 ^ 32 }
     ensures bytes { IfOk result (λ bytes. bytes.items ≡ number_bytes handles.now) }
     ensures size { IfOk result (λ bytes. length bytes.items ≡ 8 * length handles.now) }
 {
-    let mut bytes = Vec::new(alloc);
-    for handle in handles {
-        add_number(&mut bytes, handle.get())?;
-    }
+    let mut bytes = Vec::with_capacity(alloc, 8 * handles.len())?;
+    add_handles(&mut bytes, handles)?;
     Ok(bytes)
 }
 
@@ -55,28 +68,26 @@ fn add_record(bytes: &mut Vec<u8>, rec: &Rec) -> Result<(), OutOfMemory>
     add_half(bytes, rec.count)
 }
 
-/// Records in 24 bytes each.
-fn records_to_bytes(alloc: Global, records: &[Rec]) -> Result<Vec<u8>, OutOfMemory>
-    ensures { IfOk result (λ bytes. bytes.items ≡ records_bytes records.now) }
+/// Appends records in 24 bytes each.
+fn add_records(bytes: &mut Vec<u8>, records: &[Rec]) -> Result<(), OutOfMemory>
+    ensures { OnOk result (bytes.new.items ≡ bytes.old.items ++ records_bytes records.now) }
 {
-    let mut bytes = Vec::new(alloc);
     for rec in records {
-        add_record(&mut bytes, rec)?;
+        add_record(bytes, rec)?;
     }
-    Ok(bytes)
+    Ok(())
 }
 
-/// Pointers to so many GUIDs that lie after them, in a block at an address.
-fn place_bytes(alloc: Global, at: u64, n: u64) -> Result<Vec<u8>, OutOfMemory>
+/// Appends pointers to so many GUIDs that lie after them, in a block at an address.
+fn add_places(bytes: &mut Vec<u8>, at: u64, n: u64) -> Result<(), OutOfMemory>
     requires few { n ≤ MOST_INTERFACES }
     requires low { at ≤ BLOCK_END }
-    ensures { IfOk result (λ bytes. bytes.items ≡ number_bytes (name_places at n)) }
+    ensures { OnOk result (bytes.new.items ≡ bytes.old.items ++ number_bytes (name_places at n)) }
 {
-    let mut bytes = Vec::new(alloc);
     for i in 0..n {
-        add_number(&mut bytes, at + 8 * n + 16 * i)?;
+        add_number(bytes, at + 8 * n + 16 * i)?;
     }
-    Ok(bytes)
+    Ok(())
 }
 
 /// Appends a GUID in 16 bytes.
@@ -97,51 +108,91 @@ fn add_names(bytes: &mut Vec<u8>, protocols: &[(Guid, u64, Handle)]) -> Result<(
     Ok(())
 }
 
-/// Pointers to the GUIDs of protocols, and then the GUIDs, for a block at an address.
-#[tactic(auto, using(crate::proofs::BlockContents::names_at))]
-fn name_bytes(
-    alloc: Global,
+/// Appends pointers to the GUIDs of protocols, and then the GUIDs, for a block at an address.
+#[tactic(auto, using(crate::proofs::BlockContents::names_after))]
+fn add_protocols(
+    bytes: &mut Vec<u8>,
     at: u64,
     protocols: &[(Guid, u64, Handle)],
-) -> Result<Vec<u8>, OutOfMemory>
+) -> Result<(), OutOfMemory>
     requires few { length protocols.now ≤ MOST_INTERFACES }
     requires low { at ≤ BLOCK_END }
-    ensures { IfOk result (λ bytes. bytes.items ≡ names_bytes at (names_in protocols.now)) }
+    ensures { OnOk result (bytes.new.items ≡ bytes.old.items ++ names_bytes at (names_in protocols.now)) }
 {
-    let mut bytes = place_bytes(alloc, at, protocols.len() as u64)?;
-    add_names(&mut bytes, protocols)?;
-    Ok(bytes)
+    add_places(bytes, at, protocols.len() as u64)?;
+    add_names(bytes, protocols)
 }
 
-/// The bytes of a block with a handle's protocols, for the next address, and how many they are.
-fn protocol_bytes(handle: Handle, w: &World) -> Result<(Vec<u8>, u64), OutOfMemory>
-    ensures bytes { IfOk result (λ block. block.0.items ≡ contents_bytes (Contents.Protocols handle) w.now.now) }
-    ensures count { IfOk result (λ block. block.1 ≡ contents_count (Contents.Protocols handle) w.now.now) }
+/// How many items a block has.
+fn item_count(contents: &Contents, w: &World) -> u64
+    ensures count { result ≡ contents_count contents.now w.now.now }
+    ensures few { result < 2 ^ 32 }
+{
+    match *contents {
+        Contents::Handles(name) => u64::from(w.db().count_with(name)),
+        Contents::Opens { handle, guid } => u64::from(w.entries().count_on(handle, guid)),
+        Contents::Protocols(handle) => protocol_count(handle, w),
+    }
+}
+
+/// How many protocols a handle has.
+fn protocol_count(handle: Handle, w: &World) -> u64
+    ensures count { result ≡ length (protocols_of handle w.now.now.soft.database) }
+    ensures few { result < 2 ^ 32 }
 {
     w.is_kept();
-    let protocols = w.db().protocols_of(handle)?;
-    let bytes = name_bytes(w.alloc(), w.next_block(), &protocols)?;
-    Ok((bytes, protocols.len() as u64))
+    w.db().interface_count(handle) as u64
 }
 
-/// The bytes of a block, and how many items they are.
-fn block_bytes(contents: Contents, w: &World) -> Result<(Vec<u8>, u64), OutOfMemory>
-    ensures bytes { IfOk result (λ block. block.0.items ≡ contents_bytes contents w.now.now) }
-    ensures count { IfOk result (λ block. block.1 ≡ contents_count contents w.now.now) }
+/// How many bytes each item of a block takes.
+fn item_size(contents: &Contents) -> u64
+    ensures value { result ≡ item_size contents.now }
+    ensures small { result ≤ 24 }
 {
     match contents {
+        Contents::Handles(_) => 8,
+        Contents::Opens { .. } | Contents::Protocols(_) => 24,
+    }
+}
+
+/// Appends the contents of a block for the next address.
+fn add_contents(bytes: &mut Vec<u8>, contents: &Contents, w: &World) -> Result<(), OutOfMemory>
+    ensures { OnOk result (bytes.new.items ≡ bytes.old.items ++ contents_bytes contents.now w.now.now) }
+{
+    match *contents {
         Contents::Handles(name) => {
             let handles = w.db().handles_with(name)?;
-            let bytes = handle_bytes(w.alloc(), &handles)?;
-            Ok((bytes, handles.len() as u64))
+            add_handles(bytes, &handles)
         }
         Contents::Opens { handle, guid } => {
             let records = w.entries().list(handle, guid)?;
-            let bytes = records_to_bytes(w.alloc(), &records)?;
-            Ok((bytes, records.len() as u64))
+            add_records(bytes, &records)
         }
-        Contents::Protocols(handle) => protocol_bytes(handle, w),
+        Contents::Protocols(handle) => {
+            w.is_kept();
+            let protocols = w.db().protocols_of(handle)?;
+            add_protocols(bytes, w.next_block(), &protocols)
+        }
     }
+}
+
+/// Makes a block of the pool with so many items. Answers its address, or `None` if a limit is met. The
+/// limits are asked before the contents are made.
+#[tactic(auto, using(crate::proofs::BlockContents::length_of_contents))]
+fn allot_contents(contents: &Contents, n: u64, w: &mut World) -> Result<Option<u64>, OutOfMemory>
+    requires all { n ≡ contents_count contents.now w.old.now }
+    requires few { n < 2 ^ 32 }
+    ensures now { IfOk result (λ at. block_allotted (contents_bytes contents.now w.old.now) w.old.now ≡ (at, w.new.now)) }
+    ensures marks { OnOk result (w.new.marks ≡ w.old.marks) }
+    ensures writable { OnOk result (StaysWritable w.old.now w.new.now) }
+{
+    let size = item_size(contents) * n;
+    if w.is_block_full(size) {
+        return Ok(None);
+    }
+    let mut bytes = Vec::with_capacity(w.alloc(), size as usize)?;
+    add_contents(&mut bytes, contents, w)?;
+    allot(bytes, w)
 }
 
 /// Stores the address of a block and the number of its items, in 8 bytes each, which can be written.
@@ -180,8 +231,8 @@ pub fn return_block(
     ensures now { IfOk result (λ served. applied (Change.Block contents buffer count count_first) w.old.now ≡ (served, w.new.now)) }
     ensures marks { OnOk result (w.new.marks ≡ w.old.marks) }
 {
-    let (bytes, n) = block_bytes(contents, w)?;
-    match allot(bytes, w)? {
+    let n = item_count(&contents, w);
+    match allot_contents(&contents, n, w)? {
         None => Ok(with_status(Status::OUT_OF_RESOURCES)),
         Some(at) => {
             store_both(count_first, buffer, at, count, n, w)?;
@@ -202,6 +253,7 @@ pub fn store_handles(
     ensures marks { OnOk result (w.new.marks ≡ w.old.marks) }
 {
     puts_leave_writable();
+    w.is_kept();
     let handles = w.db().handles_with(guid)?;
     let bytes = handle_bytes(w.alloc(), &handles)?;
     store(size, 8 * handles.len() as u64, w)?;

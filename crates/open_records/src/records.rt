@@ -224,6 +224,15 @@ impl Records {
         self.table.len() as u32
     }
 
+    /// How many records an interface has: the length of `list`. Takes no memory.
+    pub fn count_on(&self, handle: Handle, guid: Guid) -> u32
+        ensures { result ≡ length (records_of self.now.entries handle guid) }
+    {
+        // reading the limit shows that it fits in 32 bits
+        let _most = self.limit;
+        self.table.count(handle, guid) as u32
+    }
+
     /// Removes what `cut` removes and lists nothing. Takes no memory.
     pub fn drop_from(
         &mut self,

@@ -161,7 +161,7 @@ impl SoftPart {
     // ---- blocks
 
     /// Whether one more block of so many bytes passes a limit.
-    fn is_block_full(&self, size: u64) -> bool
+    pub fn is_block_full(&self, size: u64) -> bool
         ensures { result ≡ is_block_full size self.now }
     {
         if self.memory.is_full(SegKind::Pool, size) {

@@ -1,4 +1,4 @@
-use Rattle.std.proofs.Common.{◌≡◌, ℕ, Bool, true, ◌&&◌}
+use Rattle.std.proofs.Common.{ℕ, Bool, ◌&&◌}
 use Rattle.std.proofs.lemmas.Bool.{and_parts}
 use Rattle.guest_memory.specs.GuestMemory.{is_writable_range}
 use Rattle.leaf_services.proofs.NumbersStored.{after_three}
