@@ -1,2 +1,4 @@
+mod ChildRecords
+mod HandleSets
 pub mod NullHandle
 pub mod SortedVersions

@@ -1,11 +1,12 @@
 //! The order in which drivers are asked for a controller.
-ghost use Rattle.std.specs.Prelude.{◌≡◌, ◌++◌, not, nat_eq, true, filter, flat_map, IfOk, OnOk};
+ghost use Rattle.std.specs.Prelude.{◌≡◌, ◌++◌, not, nat_eq, true, filter, flat_map, map, IfOk, OnOk};
 ghost use Rattle.driver_model.specs.Bindings.{all_bindings as all_bindings_value};
 ghost use Rattle.driver_model.specs.DriverOrder.{bus_group, by_version, drivers_by, first_places as first_places_value, order as order_value};
 ghost use Rattle.driver_model.specs.OrderLaws.{chosen_first as chosen_first_value, is_among as is_among_value, is_by_handle};
 ghost use Rattle.driver_model.specs.declared.binding.BindingBlock.{BindingBlock as BlockValue};
 
 use crate::bindings::{all_bindings, binding, bindings_of};
+use crate::handle_set::{add_unseen, drivers_without};
 use crate::numbers::numbers_of;
 use driver_model::BindingBlock;
 use driver_model::order_laws::{lists_of_drivers, order_of_drivers};
@@ -13,6 +14,7 @@ use fw_types::{Handle, OutOfMemory};
 use fw_world::World;
 use std::alloc::Global;
 use std::cmp::Reverse;
+use std::collections::BTreeSet;
 
 /// The drivers that ConnectController asks for `controller`, in their order (UEFI 2.8, 7.3:
 /// ConnectController, its rules of precedence). First come the drivers of `context`, the handles that the
@@ -137,23 +139,15 @@ fn add_of_image(
     Ok(())
 }
 
-/// Whether a list has the driver of a binding.
-fn is_among(blocks: &[BindingBlock], block: &BindingBlock) -> bool
-    ensures { result ≡ is_among_value blocks.now block.now }
-{
-    blocks.iter().any(|one| one.handle == block.handle)
-}
-
 /// Each driver of a list once, at its first place.
 fn first_places(alloc: Global, blocks: &[BindingBlock]) -> Result<Vec<BindingBlock>, OutOfMemory>
     ensures { IfOk result (λ places. places.items ≡ first_places_value blocks.now) }
 {
     lists_of_drivers();
     let mut places = Vec::new(alloc);
+    let mut handles = BTreeSet::new(alloc);
     for block in blocks {
-        if !is_among(places.as_slice(), block) {
-            places.push(*block)?;
-        }
+        add_unseen(&mut places, &mut handles, block)?;
     }
     Ok(places)
 }
@@ -193,10 +187,18 @@ fn without(
     ensures { IfOk result (λ others.
         others.items ≡ filter (λ block. not (is_among_value chosen.now block)) blocks.now) }
 {
-    let others = blocks
+    let handles = handles_of(alloc, chosen)?;
+    drivers_without(alloc, blocks, handles.as_slice())
+}
+
+/// The handles of drivers.
+fn handles_of(alloc: Global, blocks: &[BindingBlock]) -> Result<Vec<u64>, OutOfMemory>
+    ensures { IfOk result (λ handles. handles.items ≡
+        map (λ (block : BlockValue). block.handle) blocks.now) }
+{
+    let handles = blocks
         .iter()
-        .copied()
-        .filter(|block| !is_among(chosen, block))
+        .map(|block| block.handle.get())
         .collect(alloc)?;
-    Ok(others)
+    Ok(handles)
 }

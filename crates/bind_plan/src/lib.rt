@@ -3,18 +3,24 @@
 //!
 //! `bindings` reads driver bindings out of guest memory. `driver_order` has the order in which
 //! ConnectController asks drivers whether they support a controller, and `stop_order` the list of drivers
-//! that DisconnectController stops; `numbers` has handles as numbers. No call changes the world, and each answers what the definitions of
-//! `driver_model` say: `specs/Bindings.antt`, `DriverOrder.antt` and `StopOrder.antt`.
+//! that DisconnectController stops; `agent_records` says whether an agent has a record on a controller. `numbers`
+//! has handles as numbers, and `handle_set` sets of them, which find a driver among many. No call changes the
+//! world, and each answers what the definitions of `driver_model` say: `specs/Bindings.antt`,
+//! `DriverOrder.antt` and `StopOrder.antt`.
 #![tactic(auto)]
 
+mod agent_records;
 mod bindings;
 mod driver_order;
+mod handle_set;
 mod numbers;
 mod stop_order;
 
+pub use agent_records::has_record_on;
 pub use bindings::binding;
 pub use driver_model::BindingBlock;
 pub use driver_order::order;
+pub use handle_set::drivers_without;
 pub use numbers::numbers_of;
 pub use stop_order::stop_list;
 

@@ -12,7 +12,7 @@ use std::alloc::Global;
 pub fn numbers_of(alloc: Global, handles: &[Handle]) -> Result<Vec<u64>, OutOfMemory>
     ensures { IfOk result (λ numbers. numbers.items ≡ handles.now) }
 {
-    let mut numbers = Vec::new(alloc);
+    let mut numbers = Vec::with_capacity(alloc, handles.len())?;
     for handle in handles {
         numbers.push(handle.get())?;
     }

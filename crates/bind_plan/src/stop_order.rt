@@ -1,9 +1,9 @@
 //! The drivers that are stopped for a controller.
 ghost use Rattle.std.specs.Prelude.{◌≡◌, ◌++◌, ◌∷◌, [], nat_eq, filter, option_map, IfOk, OnOk, if◌then◌else◌};
-ghost use Rattle.std.specs.List.{list_any};
 ghost use Rattle.driver_model.specs.StopOrder.{has_child as has_child_value, only_driver, stop_list as stop_list_value};
 
-use fw_types::{Handle, OutOfMemory};
+use crate::agent_records::has_record_on;
+use fw_types::{Attr, Handle, OutOfMemory};
 use fw_world::World;
 use std::alloc::Global;
 
@@ -94,19 +94,19 @@ fn add_parent(
     Ok(())
 }
 
-/// Whether an agent has the child open on the controller.
+/// Whether an agent has the child open on the controller. The handle 0 is no child.
 fn has_child(world: &World, controller: Handle, child: u64, agent: u64) -> Result<bool, OutOfMemory>
     ensures { IfOk result (λ has. has ≡ has_child_value controller child world.now.now.soft agent) }
 {
-    let children = world
-        .entries()
-        .children_of(world.db(), controller, Some(agent))?;
-    Ok(is_among(children.as_slice(), child))
-}
-
-/// Whether a number is that of one of these handles.
-fn is_among(handles: &[Handle], number: u64) -> bool
-    ensures { result ≡ list_any (nat_eq number) handles.now }
-{
-    handles.iter().any(|handle| number == handle.get())
+    world.is_kept();
+    if child == 0 {
+        return Ok(false);
+    }
+    has_record_on(
+        world,
+        controller,
+        agent,
+        Some(child),
+        Attr::BY_CHILD_CONTROLLER,
+    )
 }
