@@ -1,10 +1,10 @@
 //! Which drivers ConnectController asks, how it calls them, what it answers, and how it connects a
 //! child (UEFI 2.8, 7.3 and 11.1).
 ghost use Rattle.std.specs.Prelude.{◌≡◌, IfOk};
-ghost use Rattle.driver_model.specs.Connect.{address_in, child_connection, driver_call, is_marked, status_of, unmarked};
+ghost use Rattle.driver_model.specs.Connect.{address_in, child_connection, driver_call, status_of, unmarked};
 ghost use Rattle.driver_model.specs.DriverOrder.{order, platform_list};
 
-use bind_plan::order;
+use bind_plan::{drivers_without, order};
 use driver_model::{BindingBlock, Call, CallKind, Connection, Settings};
 use fw_types::{Handle, OutOfMemory, Status};
 use fw_world::World;
@@ -20,13 +20,6 @@ fn platform_list(settings: &Settings, controller: Handle) -> &[u64]
         }
     }
     &[]
-}
-
-/// Whether a driver was started in an earlier search, whatever its Start came to.
-fn is_marked(marked: &[u64], block: &BindingBlock) -> bool
-    ensures { result ≡ is_marked marked.now block.now }
-{
-    marked.iter().any(|handle| block.handle.get() == *handle)
 }
 
 /// The drivers to ask, in their order: those that are not marked.
@@ -46,13 +39,7 @@ pub fn drivers_to_ask(
 {
     let platform = platform_list(settings, controller);
     let blocks = order(world, controller, context, platform)?;
-    let unmarked = blocks
-        .as_slice()
-        .iter()
-        .copied()
-        .filter(|block| !is_marked(marked, block))
-        .collect(world.alloc())?;
-    Ok(unmarked)
+    drivers_without(world.alloc(), blocks.as_slice(), marked)
 }
 
 /// The field of a binding that is called.

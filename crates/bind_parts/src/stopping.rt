@@ -2,19 +2,16 @@
 ghost use Rattle.std.specs.Prelude.{◌≡◌, ◌≤◌, IfOk, None, OnOk, Some, if◌then◌else◌, length};
 ghost use Rattle.std.specs.List.{list_any};
 ghost use Rattle.fw_types.specs.declared.limits.TheConstants.{MOST_LISTED as most_listed};
-ghost use Rattle.open_records.specs.Leaving.{is_meant};
-ghost use Rattle.open_records.specs.Managing.{records_on};
 ghost use Rattle.world_model.specs.Marks.{stacks};
 ghost use Rattle.driver_model.specs.Moves.{plain};
 ghost use Rattle.driver_model.specs.Disconnect.{are_all, children_closed, children_to_stop, disconnect_concluded, has_any_record, has_record_of, is_meaningless, is_of_another, is_only, list_address, manages, noted, stop_call};
 ghost use Rattle.driver_model.specs.Levels.{level_with};
 
-use bind_plan::binding;
+use bind_plan::{binding, has_record_on};
 use driver_model::{BindingBlock, Call, CallKind, Disconnection, StopTurn};
-use fw_types::{Attr, Guid, Handle, MOST_LEVELS, OutOfMemory, Status};
+use fw_types::{Attr, Handle, MOST_LEVELS, OutOfMemory, Status};
 use fw_world::World;
 use guest_memory::address_map::{CHILD_LISTS, LIST_ROOM};
-use open_records::Records;
 use std::alloc::Global;
 
 /// Whether a handle that is given means nothing: the controller is not live, a driver has no
@@ -39,26 +36,6 @@ pub fn controller_of(world: &World, d: &Disconnection) -> Option<Handle>
     Handle::new(d.controller)
 }
 
-/// Whether an agent has a record on the interfaces of some protocols of a handle, with one of these
-/// bits.
-fn has_record_on(
-    records: &Records,
-    handle: Handle,
-    protocols: &[(Guid, u64, Handle)],
-    agent: u64,
-    bits: u32,
-) -> bool
-    ensures { result ≡ list_any (is_meant (Some agent) None bits)
-        (records_on records.now.entries handle protocols.now) }
-{
-    for (guid, _, _) in protocols {
-        if records.has_meant(handle, *guid, Some(agent), None, bits) {
-            return true;
-        }
-    }
-    false
-}
-
 /// Whether an agent has a record on a controller with one of these bits.
 fn has_record_of(
     world: &World,
@@ -68,9 +45,7 @@ fn has_record_of(
 ) -> Result<bool, OutOfMemory>
     ensures { IfOk result (λ has. has_record_of controller agent bits world.now.now.soft ≡ has) }
 {
-    let protocols = world.db().protocols_of(controller)?;
-    let records = world.entries();
-    Ok(has_record_on(records, controller, protocols.as_slice(), agent, bits))
+    has_record_on(world, controller, agent, None, bits)
 }
 
 /// Whether a driver manages a controller: it has it open by BY_DRIVER.
