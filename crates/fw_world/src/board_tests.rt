@@ -38,34 +38,52 @@ fn on_two_roots(rt: &(impl AllocGlobal + Abort)) -> Result<World, Fail>
 #[test]
 fn roots_in_line_order(rt: HostRuntime) -> Result<(), Fail> {
     let world = on_two_roots(&rt)?;
-    let path = Guid::known(Known::DevicePath);
-    let bridge = Guid::known(Known::RootBridgeIo);
-    let firmware = Handle::firmware();
-    let cases = [
-        (3, 0x1_0000_0000, [0, 0, 0, 0], Some(0)),
-        (4, 0x1_0000_0010, [0x34, 0x12, 0, 0], Some(0x80)),
+    roots_in_line_order_in(&rt, &world)
+}
+
+fn roots_in_line_order_in(rt: &impl Abort, world: &World) -> Result<(), Fail> {
+    shows_root(rt, world, 3, 0x1_0000_0000, [0, 0, 0, 0])?;
+    shows_root(rt, world, 4, 0x1_0000_0010, [0x34, 0x12, 0, 0])?;
+    assert_eq!(rt; world.read(0x1_0000_0010, 1).is_some(), true);
+    assert_eq!(rt; world.read(0x1_0000_0020, 1).is_some(), false);
+    let buses = [
+        (0, None),
+        (1, None),
+        (2, None),
+        (3, Some(0)),
+        (4, Some(0x80)),
+        (5, None),
     ];
-    for (number, at, uid, bus) in cases {
-        let Some(handle) = Handle::new(number) else {
-            continue;
-        };
-        let found = world.db().protocols_of(handle)?;
-        let both = [(path, at, firmware), (bridge, 0, firmware)];
-        assert_eq!(rt; found.as_slice(), both.as_slice());
-        let [a, b, c, d] = uid;
-        let bytes: [u8; 16] = [
-            0x02, 0x01, 0x0C, 0x00, 0xD0, 0x41, 0x03, 0x0A, a, b, c, d, 0x7F, 0xFF, 0x04, 0x00,
-        ];
-        for (place, byte) in (at..u64::MAX).zip(bytes) {
-            assert_eq!(rt; world.read(place, 1), Some(u64::from(byte)));
-        }
-        assert_eq!(rt; world.read(at + 16, 1).is_some(), number == 3);
-        assert_eq!(rt; world.root_bus(number), bus);
-    }
-    for number in [0, 1, 2, 5] {
-        assert_eq!(rt; world.root_bus(number), None);
+    for (number, bus) in buses {
+        assert_eq!(rt; world.root_bus(number), bus, "of {number}");
     }
     assert_eq!(rt; world.db().is_live(5), false);
+    Ok(())
+}
+
+/// A root bridge: its protocols, and the 16 bytes of its device path, with its UID.
+fn shows_root(
+    rt: &impl Abort,
+    world: &World,
+    number: u64,
+    at: u64,
+    uid: [u8; 4],
+) -> Result<(), Fail> {
+    let handle = Handle::new(number).expect(rt, "the number of a handle");
+    let firmware = Handle::firmware();
+    let found = world.db().protocols_of(handle)?;
+    let both = [
+        (Guid::known(Known::DevicePath), at, firmware),
+        (Guid::known(Known::RootBridgeIo), 0, firmware),
+    ];
+    assert_eq!(rt; found.as_slice(), both.as_slice());
+    let [a, b, c, d] = uid;
+    let bytes: [u8; 16] = [
+        0x02, 0x01, 0x0C, 0x00, 0xD0, 0x41, 0x03, 0x0A, a, b, c, d, 0x7F, 0xFF, 0x04, 0x00,
+    ];
+    for (place, byte) in (at..u64::MAX).zip(bytes) {
+        assert_eq!(rt; world.read(place, 1), Some(u64::from(byte)));
+    }
     Ok(())
 }
 

@@ -42,15 +42,8 @@ fn open(world: &mut World, asked: Open) -> Result<bool, RecFault>
     Ok(true)
 }
 
-/// A world with an image, and with a disk and its child, each with PCI I/O, the disk with a device
-/// path too. Their handles are 3, 4 and 5.
-fn with_disk(rt: &impl AllocGlobal) -> Result<(World, [Handle; 3]), Fail> {
-    let mut world = opened(rt)?;
-    let handles = add_disk(rt, &mut world)?;
-    Ok((world, handles))
-}
-
-/// Adds the image, the disk and its child to a new world.
+/// Adds an image, and a disk and its child, each with PCI I/O, the disk with a device path too, to a new
+/// world. Their handles are 3, 4 and 5.
 fn add_disk(rt: &impl AllocGlobal, world: &mut World) -> Result<[Handle; 3], Fail> {
     let (pci, path) = (Guid::known(Known::PciIo), Guid::known(Known::DevicePath));
     let driver = world.add_image(bytes_of(rt, 0x40, 0x11)?, 0, BOOT_SERVICE_DRIVER, 0)?;
@@ -85,9 +78,14 @@ const OPENS: [Open; 9] = [
 /// How many records each way of leaving removes.
 #[test]
 fn leaves(rt: HostRuntime) -> Result<(), Fail> {
-    let (mut world, [_, disk, child]) = with_disk(&rt)?;
+    let mut world = opened(&rt)?;
+    leaves_in(&rt, &mut world)
+}
+
+fn leaves_in(rt: &(impl AllocGlobal + Abort), world: &mut World) -> Result<(), Fail> {
+    let [_, disk, child] = add_disk(rt, world)?;
     let pci = Guid::known(Known::PciIo);
-    open_all(&rt, &mut world, &OPENS)?;
+    open_all(rt, world, &OPENS)?;
     assert_eq!(rt; world.leave(disk, pci, 3, 0), Ok(1));
     assert_eq!(rt; world.leave(disk, pci, 3, 0), Ok(0));
     assert_eq!(rt; world.leave_child(disk, 3, child), Ok(2));
@@ -97,41 +95,35 @@ fn leaves(rt: HostRuntime) -> Result<(), Fail> {
     Ok(())
 }
 
-/// A world with image 3, disk 4 and child 5, and with opens that name all of them, and their
-/// handles.
-fn with_opens(rt: &(impl AllocGlobal + Abort)) -> Result<(World, [Handle; 3]), Fail> {
-    let (mut world, handles) = with_disk(rt)?;
-    let opens: [Open; 6] = [
-        (4, Known::PciIo, (5, 0, 0x02)),
-        (4, Known::PciIo, (3, 5, 0x08)),
-        (4, Known::PciIo, (3, 4, 0x10)),
-        (4, Known::DevicePath, (4, 0, 0x02)),
-        (5, Known::PciIo, (4, 0, 0x04)),
-        (5, Known::PciIo, (3, 0, 0x01)),
-    ];
-    open_all(rt, &mut world, &opens)?;
-    Ok((world, handles))
-}
+/// Opens that name all of image 3, disk 4 and child 5.
+const OPENS_OF_ALL: [Open; 6] = [
+    (4, Known::PciIo, (5, 0, 0x02)),
+    (4, Known::PciIo, (3, 5, 0x08)),
+    (4, Known::PciIo, (3, 4, 0x10)),
+    (4, Known::DevicePath, (4, 0, 0x02)),
+    (5, Known::PciIo, (4, 0, 0x04)),
+    (5, Known::PciIo, (3, 0, 0x01)),
+];
 
 /// The records of an interface are removed with it. A handle that is no longer live is named by
 /// none, as agent or as controller, and one that has another interface is still named.
 #[test]
 fn records_of_removed_interfaces(rt: HostRuntime) -> Result<(), Fail> {
-    let (mut world, handles) = with_opens(&rt)?;
-    records_of_removed_interfaces_in(&rt, &mut world, handles)
+    let mut world = opened(&rt)?;
+    records_of_removed_interfaces_in(&rt, &mut world)
 }
 
 fn records_of_removed_interfaces_in(
-    rt: &impl Abort,
+    rt: &(impl AllocGlobal + Abort),
     world: &mut World,
-    handles: [Handle; 3],
 ) -> Result<(), Fail> {
-    let [driver, disk, child] = handles;
+    let [driver, disk, child] = add_disk(rt, world)?;
+    open_all(rt, world, &OPENS_OF_ALL)?;
     let (pci, path) = (Guid::known(Known::PciIo), Guid::known(Known::DevicePath));
     world.uninstall(child, pci)?;
     // without those of the child's interface, and those that named the child
     assert_eq!(rt; world.entries().len(), 2);
-    assert_eq!(rt; world.entries().list(disk, pci)?.len(), 1);
+    assert_eq!(rt; records_on(world, disk, pci)?, 1);
     world.uninstall(disk, pci)?;
     assert_eq!(rt; world.entries().len(), 1);
     assert!(rt; open(world, (4, Known::DevicePath, (3, 0, 0x02)))?);
@@ -141,6 +133,11 @@ fn records_of_removed_interfaces_in(
     world.uninstall(disk, path)?;
     assert_eq!(rt; world.entries().len(), 0);
     Ok(())
+}
+
+/// How many records there are on a protocol of a handle.
+fn records_on(world: &World, handle: Handle, guid: Guid) -> Result<usize, OutOfMemory> {
+    Ok(world.entries().list(handle, guid)?.len())
 }
 
 /// Removes an agent's records on a handle.
@@ -163,19 +160,40 @@ fn undone_opens_in(rt: &impl Abort, world: &mut World) -> Result<(), Fail>
 {
     let pci = Guid::known(Known::PciIo);
     let disk = world.install(None, pci, 0, Handle::firmware())?;
-    assert!(rt; open(world, (3, Known::PciIo, (1, 0, 0x02)))?);
+    opens(rt, world, (3, Known::PciIo, (1, 0, 0x02)))?;
     let mark = world.mark();
-    assert!(rt; open(world, (3, Known::PciIo, (1, 3, 0x10)))?);
-    assert!(rt; open(world, (3, Known::PciIo, (1, 0, 0x02)))?);
+    opens(rt, world, (3, Known::PciIo, (1, 3, 0x10)))?;
+    opens(rt, world, (3, Known::PciIo, (1, 0, 0x02)))?;
     assert_eq!(rt; leave_all(world, disk, 1)?, 2);
     world.rollback(mark)?;
-    let left = world.entries().list(disk, pci)?;
-    assert_eq!(rt; left.len(), 1);
-    for one in &left {
-        assert_eq!(rt; (one.agent, one.controller, one.count), (1, 0, 1));
-    }
-    assert!(rt; open(world, (3, Known::PciIo, (1, 3, 0x10)))?);
+    has_records(rt, world, disk, &[(1, 0, 1)])?;
+    opens(rt, world, (3, Known::PciIo, (1, 3, 0x10)))?;
     assert_eq!(rt; world.entries().len(), 2);
+    Ok(())
+}
+
+/// Enters an open that may be entered.
+fn opens(rt: &impl Abort, world: &mut World, asked: Open) -> Result<(), RecFault>
+    ensures marks { OnOk result (world.new.marks ≡ world.old.marks) }
+    ensures stacks { OnOk result (stacks world.new.now.soft ≡ stacks world.old.now.soft) }
+{
+    let done = open(world, asked)?;
+    assert!(rt; done);
+    Ok(())
+}
+
+/// The records on PCI I/O of a handle: agent, controller and count.
+fn has_records(
+    rt: &impl Abort,
+    world: &World,
+    handle: Handle,
+    rows: &[(u64, u64, u32)],
+) -> Result<(), OutOfMemory> {
+    let found = world.entries().list(handle, Guid::known(Known::PciIo))?;
+    assert_eq!(rt; found.len(), rows.len());
+    for (one, row) in found.iter().zip(rows) {
+        assert_eq!(rt; (one.agent, one.controller, one.count), *row);
+    }
     Ok(())
 }
 
@@ -198,30 +216,41 @@ fn undone_sweep(rt: HostRuntime) -> Result<(), Fail> {
 fn undone_sweep_in(rt: &impl Abort, world: &mut World) -> Result<(), Fail>
     requires { world.old.marks ≡ [] }
 {
-    let pci = Guid::known(Known::PciIo);
-    let _ = world.install(None, pci, 0, Handle::firmware())?;
-    let second = world.install(None, pci, 0, Handle::firmware())?;
-    let _ = world.install(None, pci, 0, Handle::firmware())?;
-    let gone = world.install(None, pci, 7, Handle::firmware())?;
-    assert!(rt; open(world, (3, Known::PciIo, (6, 0, 0x02)))?);
-    assert!(rt; open(world, (4, Known::PciIo, (1, 0, 0x02)))?);
-    assert!(rt; open(world, (4, Known::PciIo, (6, 0, 0x02)))?);
-    assert!(rt; open(world, (4, Known::PciIo, (2, 3, 0x04)))?);
-    assert!(rt; open(world, (5, Known::PciIo, (1, 6, 0x02)))?);
-    assert!(rt; open(world, (6, Known::PciIo, (1, 0, 0x02)))?);
+    let [second, gone] = install_four(world)?;
+    open_six(rt, world)?;
     let mark = world.mark();
     uninstall_pci(world, gone)?;
     assert_eq!(rt; (world.db().is_live(6), world.entries().len()), (false, 2));
     world.rollback(mark)?;
     assert_eq!(rt;
-        world.db().interface(gone, pci),
+        world.db().interface(gone, Guid::known(Known::PciIo)),
         Some((7, Handle::firmware()))
     );
     assert_eq!(rt; world.entries().len(), 6);
-    let on_second = world.entries().list(second, pci)?;
-    assert_eq!(rt; on_second.len(), 3);
-    for (one, agent) in on_second.iter().zip([1u64, 6, 2]) {
-        assert_eq!(rt; one.agent, agent);
-    }
+    has_records(rt, world, second, &[(1, 0, 1), (6, 0, 1), (2, 3, 1)])?;
     Ok(())
+}
+
+/// Installs PCI I/O on four new handles, of which the second and the last are the answer.
+fn install_four(world: &mut World) -> Result<[Handle; 2], DbRefusal>
+    ensures { OnOk result (world.new.marks ≡ world.old.marks) }
+{
+    let pci = Guid::known(Known::PciIo);
+    let _ = world.install(None, pci, 0, Handle::firmware())?;
+    let second = world.install(None, pci, 0, Handle::firmware())?;
+    let _ = world.install(None, pci, 0, Handle::firmware())?;
+    let gone = world.install(None, pci, 7, Handle::firmware())?;
+    Ok([second, gone])
+}
+
+/// Opens PCI I/O of handles 3 to 6 six times.
+fn open_six(rt: &impl Abort, world: &mut World) -> Result<(), RecFault>
+    ensures { OnOk result (world.new.marks ≡ world.old.marks) }
+{
+    opens(rt, world, (3, Known::PciIo, (6, 0, 0x02)))?;
+    opens(rt, world, (4, Known::PciIo, (1, 0, 0x02)))?;
+    opens(rt, world, (4, Known::PciIo, (6, 0, 0x02)))?;
+    opens(rt, world, (4, Known::PciIo, (2, 3, 0x04)))?;
+    opens(rt, world, (5, Known::PciIo, (1, 6, 0x02)))?;
+    opens(rt, world, (6, Known::PciIo, (1, 0, 0x02)))
 }

@@ -3,7 +3,7 @@ ghost use Rattle.world_model.specs.Marks.{stacks};
 
 use crate::{World, WorldFault};
 use fw_types::{
-    BOOT_SERVICE_DRIVER, Cause, Event, EventKind, Guid, Handle, Known, OutOfMemory, Outcome,
+    BOOT_SERVICE_DRIVER, Cause, EventKind, Guid, Handle, Known, OutOfMemory, Outcome,
     RUNTIME_DRIVER, Status,
 };
 use guest_memory::{GuestMem, SegKind};
@@ -27,28 +27,24 @@ pub(crate) fn opened(rt: &impl AllocGlobal) -> Result<World, OutOfMemory>
     World::new(rt.alloc(), Board::empty(rt.alloc()), Vec::new(rt.alloc()))
 }
 
-/// Whether memory has just so many bytes from an address on, which are 0 except for these fields.
-fn has_bytes(
-    rt: &impl AllocGlobal,
-    world: &World,
-    base: u64,
-    size: usize,
-    fields: &[(usize, &[u8])],
-) -> Result<bool, AllocError> {
-    let mut wanted = bytes_of(rt, size, 0)?;
+/// What some fields of a block have at a place in it: the bytes of the last of them that has it, or 0.
+fn byte_in(fields: &[(usize, &[u8])], place: usize) -> u8 {
+    let mut found = 0;
     for (at, bytes) in fields {
-        for (place, byte) in (*at..size).zip(*bytes) {
-            if let Some(slot) = wanted.get_mut(place) {
-                *slot = *byte;
-            }
+        if *at <= place {
+            found = bytes.get(place - *at).copied().unwrap_or(found);
         }
     }
-    for (at, byte) in (base..u64::MAX).zip(&wanted) {
-        if world.read(at, 1) != Some(u64::from(*byte)) {
-            return Ok(false);
-        }
+    found
+}
+
+/// Memory has just so many bytes from an address on, which are 0 except for these fields.
+fn shows(rt: &impl Abort, world: &World, base: u64, size: usize, fields: &[(usize, &[u8])]) {
+    for (at, place) in (base..u64::MAX).zip(0..size) {
+        let byte = byte_in(fields, place);
+        assert_eq!(rt; world.read(at, 1), Some(u64::from(byte)), "at {at:x}");
     }
-    Ok(world.read(base.saturating_add(size as u64), 1).is_none())
+    assert_eq!(rt; world.read(base.saturating_add(size as u64), 1), None);
 }
 
 /// All bytes of the bus driver's binding.
@@ -65,7 +61,7 @@ fn opening_binding(rt: HostRuntime) -> Result<(), Fail> {
         (32, &[1]),
         (40, &[2]),
     ];
-    assert!(rt; has_bytes(&rt, &world, 0x1_3000, 48, &binding)?);
+    shows(&rt, &world, 0x1_3000, 48, &binding);
     Ok(())
 }
 
@@ -81,7 +77,7 @@ fn opening_image_block(rt: HostRuntime) -> Result<(), Fail> {
         (80, &[3]),
         (84, &[4]),
     ];
-    assert!(rt; has_bytes(&rt, &world, 0x1_4000, 96, &firmware)?);
+    shows(&rt, &world, 0x1_4000, 96, &firmware);
     Ok(())
 }
 
@@ -107,15 +103,8 @@ fn opening_handles(rt: HostRuntime) -> Result<(), Fail> {
     Ok(())
 }
 
-/// A world with two images: 0x10001 bytes of a boot service driver, with its entry at offset 0x10,
+/// Adds two images to a new world: 0x10001 bytes of a boot service driver, with its entry at offset 0x10,
 /// and 0x10000 of a runtime driver, from a device 3 and with the last byte as its entry.
-fn with_images(rt: &impl AllocGlobal) -> Result<(World, Handle), Fail> {
-    let mut world = opened(rt)?;
-    let first = add_images(rt, &mut world)?;
-    Ok((world, first))
-}
-
-/// Adds the two images to a new world.
 fn add_images(rt: &impl AllocGlobal, world: &mut World) -> Result<Handle, Fail> {
     let first = world.add_image(bytes_of(rt, 0x1_0001, 0x11)?, 0x10, BOOT_SERVICE_DRIVER, 0)?;
     let _ = world.add_image(bytes_of(rt, 0x1_0000, 0x22)?, 0xffff, RUNTIME_DRIVER, 3)?;
@@ -125,7 +114,12 @@ fn add_images(rt: &impl AllocGlobal, world: &mut World) -> Result<Handle, Fail> 
 /// All bytes of the loaded image block of a runtime driver from a device.
 #[test]
 fn runtime_image_block(rt: HostRuntime) -> Result<(), Fail> {
-    let (world, _) = with_images(&rt)?;
+    let mut world = opened(&rt)?;
+    runtime_image_block_in(&rt, &mut world)
+}
+
+fn runtime_image_block_in(rt: &(impl AllocGlobal + Abort), world: &mut World) -> Result<(), Fail> {
+    let _ = add_images(rt, world)?;
     let block: [(usize, &[u8]); 8] = [
         (0, &[0, 0x10]),
         (8, &[1]),
@@ -137,7 +131,7 @@ fn runtime_image_block(rt: HostRuntime) -> Result<(), Fail> {
         (80, &[5]),
         (84, &[6]),
     ];
-    assert!(rt; has_bytes(&rt, &world, 0x1_0000_0060, 96, &block)?);
+    shows(rt, world, 0x1_0000_0060, 96, &block);
     Ok(())
 }
 
@@ -145,15 +139,12 @@ fn runtime_image_block(rt: HostRuntime) -> Result<(), Fail> {
 /// address nor its handle nor the thunk's number is used again.
 #[test]
 fn images_and_thunks(rt: HostRuntime) -> Result<(), Fail> {
-    let (mut world, first) = with_images(&rt)?;
-    images_and_thunks_in(&rt, &mut world, first)
+    let mut world = opened(&rt)?;
+    images_and_thunks_in(&rt, &mut world)
 }
 
-fn images_and_thunks_in(
-    rt: &(impl AllocGlobal + Abort),
-    world: &mut World,
-    first: Handle,
-) -> Result<(), Fail> {
+fn images_and_thunks_in(rt: &(impl AllocGlobal + Abort), world: &mut World) -> Result<(), Fail> {
+    let first = add_images(rt, world)?;
     assert_eq!(rt;
         (world.entry_of(3), world.entry_of(4)),
         (Some(0x200_0010), Some(0x202_ffff))
@@ -234,39 +225,41 @@ fn most_bytes_of_blocks_in(rt: &(impl AllocGlobal + Abort), world: &mut World) -
     Ok(())
 }
 
-/// Two events, of which the second begins and ends inside the first.
-fn two_events(rt: &impl AllocGlobal) -> Result<Vec<Event>, Fail> {
-    let mut world = opened(rt)?;
-    let events = begin_and_end(&mut world)?;
-    Ok(events)
+/// Events inside one another, which end in another order than they begin.
+#[test]
+fn events(rt: HostRuntime) -> Result<(), Fail> {
+    let mut world = opened(&rt)?;
+    events_in(&rt, &mut world)
 }
 
-/// Begins and ends the two events.
-fn begin_and_end(world: &mut World) -> Result<Vec<Event>, OutOfMemory> {
+/// The number of an event, the one inside which it begins, the driver, and how it ends.
+type EventRow = (u64, u64, u64, Outcome);
+
+const EVENTS: [EventRow; 2] = [
+    (1, 0, 3, Outcome::Value(Status::NOT_FOUND)),
+    (2, 1, 4, Outcome::Trapped(Cause::Memory)),
+];
+
+fn events_in(rt: &impl Abort, world: &mut World) -> Result<(), Fail> {
+    begin_and_end(world)?;
+    let events = world.take_events();
+    assert_eq!(rt; events.len(), 2);
+    for (event, row) in events.iter().zip(EVENTS) {
+        assert_eq!(rt;
+            (event.serial, event.parent, event.driver, event.result),
+            row
+        );
+    }
+    Ok(())
+}
+
+/// Begins and ends two events, of which the second begins and ends inside the first.
+fn begin_and_end(world: &mut World) -> Result<(), OutOfMemory> {
     world.begin_command(64);
     let first = world.begin_event(0, EventKind::Entry, 3, 0, 0)?;
     let second = world.begin_event(first, EventKind::Entry, 4, 5, 6)?;
     world.end_event(second, Outcome::Trapped(Cause::Memory));
     world.end_event(first, Outcome::Value(Status::NOT_FOUND));
-    Ok(world.take_events())
-}
-
-/// Events inside one another, which end in another order than they begin.
-#[test]
-fn events(rt: HostRuntime) -> Result<(), Fail> {
-    let events = two_events(&rt)?;
-    assert_eq!(rt; events.len(), 2);
-    let rows: [(u64, u64, u64, Outcome); 2] = [
-        (1, 0, 3, Outcome::Value(Status::NOT_FOUND)),
-        (2, 1, 4, Outcome::Trapped(Cause::Memory)),
-    ];
-    for (event, (serial, parent, driver, result)) in events.iter().zip(rows) {
-        assert_eq!(rt;
-            (event.serial, event.parent, event.driver),
-            (serial, parent, driver)
-        );
-        assert_eq!(rt; event.result, result);
-    }
     Ok(())
 }
 
@@ -278,10 +271,16 @@ fn stack_frame(rt: HostRuntime) -> Result<(), Fail> {
     let cpu = world.push_stack(1, &slots, &[3, 0x0102_0304_0506_0708])?;
     assert_eq!(rt; cpu.r, [0x81_ff70, 0, 0, 0, 0, 0, 0, 0]);
     assert_eq!(rt; (cpu.flags, cpu.ip), (0, 0));
+    shows_frame(&rt, &world);
+    Ok(())
+}
+
+/// The stack of level 1: zeros below the frame, the return address, 8 bytes of zeros, and the arguments 1 to
+/// 16.
+fn shows_frame(rt: &impl Abort, world: &World) {
     for i in 0..0xff70 {
         assert_eq!(rt; world.read(0x81_0000 + i, 1), Some(0));
     }
-    // the return address, 8 bytes of zeros, and the arguments
     assert_eq!(rt;
         (world.read(0x81_ff70, 8), world.read(0x81_ff78, 8)),
         (Some(0x2_4000), Some(0))
@@ -290,7 +289,6 @@ fn stack_frame(rt: HostRuntime) -> Result<(), Fail> {
         assert_eq!(rt; world.read(0x81_ff80 + 8 * i, 8), Some(i + 1));
     }
     assert_eq!(rt; world.read(0x82_0000, 1), None);
-    Ok(())
 }
 
 /// A list of children beside a stack. They are removed together.
@@ -299,7 +297,7 @@ fn list_of_children(rt: HostRuntime) -> Result<(), Fail> {
     let mut world = World::new(rt.alloc(), Board::empty(rt.alloc()), Vec::new(rt.alloc()))?;
     let _ = world.push_stack(1, &[0; 16], &[3, 0x0102_0304_0506_0708])?;
     let list: [(usize, &[u8]); 2] = [(0, &[3]), (8, &[8, 7, 6, 5, 4, 3, 2, 1])];
-    assert!(rt; has_bytes(&rt, &world, 0xc2_0000, 16, &list)?);
+    shows(&rt, &world, 0xc2_0000, 16, &list);
     world.pop_stack(1)?;
     assert_eq!(rt;
         (world.read(0x81_0000, 1), world.read(0xc2_0000, 1)),
