@@ -1,15 +1,14 @@
 //! ConnectController and DisconnectController, up to where they enter the driver model. The table of
 //! services has them as not built, so their rows are called here.
 
-ghost use Rattle.std.specs.Prelude.{◌≡◌, IfOk, true};
+ghost use Rattle.std.specs.Prelude.{◌≡◌, IfOk, false, true};
 ghost use Rattle.service_model.specs.Allowed.{is_allowed};
+ghost use Rattle.world_model.specs.Stacks.{has_stack};
 
 use crate::changes::apply;
-use crate::protocol_tests::{BAD, LIST};
-use crate::tests::{PLACE, STACK_END, world_with};
+use crate::steps::{BAD, LIST, PLACE, STACK_END, empty_world, put_word, set_up};
 use fw_types::{Cause, OutOfMemory, Rows, Status};
 use fw_world::World;
-use guest_memory::GuestMem;
 use service_model::laws::reentries_change_nothing;
 use service_model::{Change, Reentry, Served, Stop};
 use service_rows::connecting::{connect_controller, disconnect_controller};
@@ -60,26 +59,34 @@ const CONNECTS: [Connect; 16] = [
     (ENDLESS + 8, 0, 0, Ok((63, false, false))),
 ];
 
-/// A world with those lists and paths, and 7 in the last 8 bytes of the stack.
-fn prepared(rt: &impl AllocGlobal) -> Result<World, Fail> {
-    let mut world = world_with(rt, 100)?;
+/// Makes of an empty world one with those lists and paths, and 7 in the last 8 bytes of the stack.
+fn prepare(rt: &impl AllocGlobal, world: &mut World) -> Result<(), Fail>
+    requires { has_stack 1 world.old.now.soft.memory ≡ false }
+{
+    set_up(rt, world, 100)?;
     let mut at = ENDLESS;
     for i in 0..64u64 {
-        world.write(at, 8, 100 + i)?;
+        put_word(world, at, 100 + i)?;
         at = at.wrapping_add(8);
     }
-    world.write(TWO, 8, 3)?;
-    world.write(TWO + 8, 8, 5)?;
+    put_word(world, TWO, 3)?;
+    put_word(world, TWO + 8, 5)?;
     // an end node of 4 bytes, and a hardware node
-    world.write(END, 4, 0x0004_ff7f)?;
-    world.write(MORE, 4, 0x0006_017f)?;
-    world.write(LAST, 8, 7)?;
-    Ok(world)
+    put_word(world, END, 0x0004_ff7f)?;
+    put_word(world, MORE, 0x0006_017f)?;
+    put_word(world, LAST, 7)
 }
 
 #[test]
 fn connects(rt: HostRuntime) -> Result<(), Fail> {
-    let world = prepared(&rt)?;
+    let mut world = empty_world(&rt)?;
+    connects_in(&rt, &mut world)
+}
+
+fn connects_in(rt: &(impl AllocGlobal + Abort), world: &mut World) -> Result<(), Fail>
+    requires { has_stack 1 world.old.now.soft.memory ≡ false }
+{
+    prepare(rt, world)?;
     for (list, path, flag, ends) in CONNECTS {
         let ends = ends.map(|(count, at_end, recursive)| Change::Connect {
             controller: 4,
@@ -90,7 +97,7 @@ fn connects(rt: HostRuntime) -> Result<(), Fail> {
             recursive,
         });
         assert_eq!(rt;
-            connect_controller(4, list, path, flag, &world),
+            connect_controller(4, list, path, flag, world),
             ends,
             "at {list:x} {path:x}"
         );
@@ -119,11 +126,14 @@ fn go_on(change: Result<Change, Stop>, world: &mut World) -> Result<Option<Serve
 /// The handles are read when the service goes on.
 #[test]
 fn goes_on(rt: HostRuntime) -> Result<(), Fail> {
-    let mut world = prepared(&rt)?;
+    let mut world = empty_world(&rt)?;
     goes_on_in(&rt, &mut world)
 }
 
-fn goes_on_in(rt: &(impl AllocGlobal + Abort), world: &mut World) -> Result<(), Fail> {
+fn goes_on_in(rt: &(impl AllocGlobal + Abort), world: &mut World) -> Result<(), Fail>
+    requires { has_stack 1 world.old.now.soft.memory ≡ false }
+{
+    prepare(rt, world)?;
     let connect = connect_row(TWO, END, 1, world);
     assert_eq!(rt;
         go_on(connect, world)?,

@@ -22,10 +22,14 @@ pub use service_model::{Caller, HandleInterface, Opening, Reentry, Removal, Serv
 #[cfg(test)]
 mod connect_tests;
 #[cfg(test)]
+mod fillings;
+#[cfg(test)]
 mod limit_tests;
 #[cfg(test)]
 mod order_tests;
 #[cfg(test)]
 mod protocol_tests;
+#[cfg(test)]
+mod steps;
 #[cfg(test)]
 mod tests;

@@ -1,36 +1,12 @@
 //! Of two things that are wrong with a call, the earlier answers: for each two refusals or traps of a
 //! service that answer differently and can both be true, a call in which both are.
-ghost use Rattle.std.specs.Prelude.{◌≡◌, true};
-ghost use Rattle.service_model.specs.BootServices.{is_boot_service};
 
-use crate::protocol_tests::{
-    BAD, DENIED, DONE, FIRST, GOES_ON, INVALID, LOADED, MISSING, NAME, NOWHERE, OTHER, SECOND,
-    SMALL, STARTED, TABLE, TRAPPED, UNKNOWN, install_list, prepared,
+use crate::steps::{
+    BAD, Call, DENIED, DONE, FIRST, GOES_ON, INVALID, LOADED, MISSING, NAME, NOWHERE, OTHER,
+    SECOND, SMALL, STACK_END, STARTED, Step, TABLE, TRAPPED, UNKNOWN, from_protocol,
 };
-use crate::tests::{Answer, STACK_END, call, called_at};
-use fw_world::World;
-use guest_memory::GuestMem;
 use service_thunks::Service;
-use std::process::Abort;
 use std::test::Fail;
-
-/// The arguments of a call, and what it answers.
-pub(crate) type Call = ([u64; 6], Answer);
-
-/// A service answers each of these calls as given.
-pub(crate) fn all_answer(
-    rt: &impl Abort,
-    world: &mut World,
-    s: Service,
-    calls: &[Call],
-) -> Result<(), Fail>
-    requires { is_boot_service s ≡ true }
-{
-    for (arguments, served) in calls {
-        assert_eq!(rt; call(world, s, arguments)?, *served, "at {arguments:?}");
-    }
-    Ok(())
-}
 
 /// A place in a table whose 8 bytes are 1, the firmware's handle, and one whose bytes are 0.
 const TABLE_ONE: u64 = TABLE + 32;
@@ -38,7 +14,7 @@ const TABLE_ONE: u64 = TABLE + 32;
 pub(crate) const TABLE_ZERO: u64 = TABLE + 40;
 
 /// InstallProtocolInterface, with the number of a dead handle at `SECOND`.
-const INSTALLS: [Call; 11] = [
+const INSTALLS: &[Call] = &[
     // a pointer that is NULL before the other
     ([0, BAD, 0, 5, 0, 0], INVALID),
     ([BAD, 0, 0, 5, 0, 0], INVALID),
@@ -60,13 +36,15 @@ const INSTALLS: [Call; 11] = [
 
 #[test]
 fn installs(rt: HostRuntime) -> Result<(), Fail> {
-    let mut world = prepared(&rt)?;
-    world.write(SECOND, 8, 99)?;
-    all_answer(&rt, &mut world, Service::Install, &INSTALLS)
+    let steps = [
+        Step::Writes(SECOND, 99),
+        Step::CallsAll(Service::Install, INSTALLS),
+    ];
+    from_protocol(&rt, &steps)
 }
 
 /// UninstallProtocolInterface, while a driver uses protocol 1 of handle 4.
-const UNINSTALLS: [Call; 8] = [
+const UNINSTALLS: &[Call] = &[
     ([4, 0, 5, 0, 0, 0], INVALID),
     ([99, BAD, 5, 0, 0, 0], TRAPPED),
     ([99, NAME, 5, 0, 0, 0], INVALID),
@@ -82,17 +60,15 @@ const UNINSTALLS: [Call; 8] = [
 
 #[test]
 fn uninstalls(rt: HostRuntime) -> Result<(), Fail> {
-    let mut world = prepared(&rt)?;
-    let _ = call(
-        &mut world,
-        Service::OpenProtocol,
-        &[4, NAME, SECOND, 3, 2, 0x10],
-    )?;
-    all_answer(&rt, &mut world, Service::Uninstall, &UNINSTALLS)
+    let steps = [
+        Step::Calls(Service::OpenProtocol, &[4, NAME, SECOND, 3, 2, 0x10], DONE),
+        Step::CallsAll(Service::Uninstall, UNINSTALLS),
+    ];
+    from_protocol(&rt, &steps)
 }
 
 /// HandleProtocol.
-const HANDLE_PROTOCOLS: [Call; 8] = [
+const HANDLE_PROTOCOLS: &[Call] = &[
     ([4, 0, BAD, 0, 0, 0], INVALID),
     ([99, BAD, SECOND, 0, 0, 0], INVALID),
     ([99, NAME, BAD, 0, 0, 0], INVALID),
@@ -105,12 +81,14 @@ const HANDLE_PROTOCOLS: [Call; 8] = [
 
 #[test]
 fn handle_protocols(rt: HostRuntime) -> Result<(), Fail> {
-    let mut world = prepared(&rt)?;
-    all_answer(&rt, &mut world, Service::HandleProtocol, &HANDLE_PROTOCOLS)
+    from_protocol(
+        &rt,
+        &[Step::CallsAll(Service::HandleProtocol, HANDLE_PROTOCOLS)],
+    )
 }
 
 /// OpenProtocol while nothing is open.
-const OPENS: [Call; 21] = [
+const OPENS: &[Call] = &[
     ([4, 0, BAD, 3, 2, 0x10], INVALID),
     ([99, BAD, SECOND, 3, 2, 0x10], INVALID),
     ([99, NAME, BAD, 3, 2, 0x10], INVALID),
@@ -137,7 +115,7 @@ const OPENS: [Call; 21] = [
 ];
 
 /// OpenProtocol while image 3 has protocol 1 of handle 4 open as a driver.
-const SECOND_OPENS: [Call; 9] = [
+const SECOND_OPENS: &[Call] = &[
     ([4, NAME, 0, 3, 2, 0x10], INVALID),
     ([4, NAME, 0, 1, 2, 0x10], INVALID),
     ([4, NAME, BAD, 3, 2, 0x10], TRAPPED),
@@ -151,21 +129,18 @@ const SECOND_OPENS: [Call; 9] = [
 
 #[test]
 fn opens(rt: HostRuntime) -> Result<(), Fail> {
-    let mut world = prepared(&rt)?;
-    opens_in(&rt, &mut world)
-}
-
-fn opens_in(rt: &(impl AllocGlobal + Abort), world: &mut World) -> Result<(), Fail> {
-    all_answer(rt, world, Service::OpenProtocol, &OPENS)?;
-    assert_eq!(rt; world.entries().len(), 0);
-    let _ = call(world, Service::OpenProtocol, &[4, NAME, SECOND, 3, 2, 0x10])?;
-    all_answer(rt, world, Service::OpenProtocol, &SECOND_OPENS)?;
-    assert_eq!(rt; world.entries().len(), 1);
-    Ok(())
+    let steps = [
+        Step::CallsAll(Service::OpenProtocol, OPENS),
+        Step::Records(0),
+        Step::Calls(Service::OpenProtocol, &[4, NAME, SECOND, 3, 2, 0x10], DONE),
+        Step::CallsAll(Service::OpenProtocol, SECOND_OPENS),
+        Step::Records(1),
+    ];
+    from_protocol(&rt, &steps)
 }
 
 /// CloseProtocol.
-const CLOSES: [Call; 11] = [
+const CLOSES: &[Call] = &[
     ([4, 0, 3, 2, 0, 0], INVALID),
     ([99, BAD, 3, 2, 0, 0], TRAPPED),
     ([4, BAD, 99, 2, 0, 0], TRAPPED),
@@ -183,12 +158,11 @@ const CLOSES: [Call; 11] = [
 
 #[test]
 fn closes(rt: HostRuntime) -> Result<(), Fail> {
-    let mut world = prepared(&rt)?;
-    all_answer(&rt, &mut world, Service::CloseProtocol, &CLOSES)
+    from_protocol(&rt, &[Step::CallsAll(Service::CloseProtocol, CLOSES)])
 }
 
 /// OpenProtocolInformation.
-const INFORMATIONS: [Call; 17] = [
+const INFORMATIONS: &[Call] = &[
     ([4, 0, BAD, SECOND, 0, 0], INVALID),
     ([4, 0, FIRST, BAD, 0, 0], INVALID),
     ([4, BAD, 0, SECOND, 0, 0], INVALID),
@@ -213,19 +187,15 @@ const INFORMATIONS: [Call; 17] = [
 
 #[test]
 fn informations(rt: HostRuntime) -> Result<(), Fail> {
-    let mut world = prepared(&rt)?;
-    all_answer(
-        &rt,
-        &mut world,
-        Service::OpenProtocolInformation,
-        &INFORMATIONS,
-    )?;
-    assert_eq!(rt; world.read(FIRST, 8), Some(4));
-    Ok(())
+    let steps = [
+        Step::CallsAll(Service::OpenProtocolInformation, INFORMATIONS),
+        Step::Words(FIRST, &[4]),
+    ];
+    from_protocol(&rt, &steps)
 }
 
 /// ProtocolsPerHandle.
-const PROTOCOLS: [Call; 5] = [
+const PROTOCOLS: &[Call] = &[
     ([4, 0, BAD, 0, 0, 0], INVALID),
     ([4, BAD, 0, 0, 0, 0], INVALID),
     ([99, BAD, SECOND, 0, 0, 0], TRAPPED),
@@ -235,12 +205,14 @@ const PROTOCOLS: [Call; 5] = [
 
 #[test]
 fn protocols(rt: HostRuntime) -> Result<(), Fail> {
-    let mut world = prepared(&rt)?;
-    all_answer(&rt, &mut world, Service::ProtocolsPerHandle, &PROTOCOLS)
+    from_protocol(
+        &rt,
+        &[Step::CallsAll(Service::ProtocolsPerHandle, PROTOCOLS)],
+    )
 }
 
 /// LocateHandle, with a size at `FIRST` that is enough for one handle, and one at `SECOND` that is not.
-const SEARCHES: [Call; 14] = [
+const SEARCHES: &[Call] = &[
     ([1, NAME, 0, BAD, SECOND, 0], INVALID),
     ([1, NAME, 0, FIRST, BAD, 0], INVALID),
     ([2, BAD, 0, 0, SECOND, 0], INVALID),
@@ -261,25 +233,23 @@ const SEARCHES: [Call; 14] = [
 
 #[test]
 fn searches(rt: HostRuntime) -> Result<(), Fail> {
-    let mut world = prepared(&rt)?;
-    searches_in(&rt, &mut world)
-}
-
-fn searches_in(rt: &(impl AllocGlobal + Abort), world: &mut World) -> Result<(), Fail> {
-    world.write(FIRST, 8, 8)?;
-    all_answer(rt, world, Service::LocateHandle, &SEARCHES)?;
-    // a size that is not enough before what is wrong with the buffer; the one that is needed is stored
-    for buffer in [0, BAD] {
-        world.write(FIRST, 8, 7)?;
-        let small = ([2, NAME, 0, FIRST, buffer, 0], SMALL);
-        all_answer(rt, world, Service::LocateHandle, &[small])?;
-        assert_eq!(rt; world.read(FIRST, 8), Some(8));
-    }
-    Ok(())
+    let s = Service::LocateHandle;
+    let steps = [
+        Step::Writes(FIRST, 8),
+        Step::CallsAll(s, SEARCHES),
+        // a size that is not enough before what is wrong with the buffer; the one that is needed is stored
+        Step::Writes(FIRST, 7),
+        Step::Calls(s, &[2, NAME, 0, FIRST, 0, 0], SMALL),
+        Step::Words(FIRST, &[8]),
+        Step::Writes(FIRST, 7),
+        Step::Calls(s, &[2, NAME, 0, FIRST, BAD, 0], SMALL),
+        Step::Words(FIRST, &[8]),
+    ];
+    from_protocol(&rt, &steps)
 }
 
 /// LocateHandleBuffer.
-const BUFFERS: [Call; 14] = [
+const BUFFERS: &[Call] = &[
     ([1, NAME, 0, BAD, SECOND, 0], INVALID),
     ([1, NAME, 0, FIRST, BAD, 0], INVALID),
     ([2, 0, 0, BAD, SECOND, 0], INVALID),
@@ -298,12 +268,11 @@ const BUFFERS: [Call; 14] = [
 
 #[test]
 fn buffers(rt: HostRuntime) -> Result<(), Fail> {
-    let mut world = prepared(&rt)?;
-    all_answer(&rt, &mut world, Service::LocateHandleBuffer, &BUFFERS)
+    from_protocol(&rt, &[Step::CallsAll(Service::LocateHandleBuffer, BUFFERS)])
 }
 
 /// LocateProtocol.
-const FINDS: [Call; 6] = [
+const FINDS: &[Call] = &[
     ([0, 0, BAD, 0, 0, 0], INVALID),
     ([BAD, 0, 0, 0, 0, 0], INVALID),
     ([NOWHERE, 0, 0, 0, 0, 0], INVALID),
@@ -314,48 +283,33 @@ const FINDS: [Call; 6] = [
 
 #[test]
 fn finds(rt: HostRuntime) -> Result<(), Fail> {
-    let mut world = prepared(&rt)?;
-    all_answer(&rt, &mut world, Service::LocateProtocol, &FINDS)
+    from_protocol(&rt, &[Step::CallsAll(Service::LocateProtocol, FINDS)])
 }
 
-/// The first argument of InstallMultipleProtocolInterfaces and the list after it, with the number of handle
-/// 4 at `FIRST` and that of a dead handle at `SECOND`.
-const LISTS: [Call; 10] = [
-    ([0, BAD, 6, 0, 0, 0], INVALID),
-    ([TABLE, OTHER, 6, 0, 0, 0], TRAPPED),
-    ([TABLE_ONE, LOADED, 6, 0, 0, 0], TRAPPED),
-    // each GUID is read before a pair is judged
-    ([FIRST, NAME, 6, BAD, 7, 0], TRAPPED),
-    ([SECOND, OTHER, 6, BAD, 7, 0], TRAPPED),
-    // each alone
-    ([FIRST, NAME, 6, 0, 0, 0], INVALID),
-    ([FIRST, OTHER, 6, OTHER, 7, 0], INVALID),
-    ([SECOND, OTHER, 6, 0, 0, 0], INVALID),
-    // a list of no pairs: the handle's value is not looked at, but can be written
-    ([TABLE, 0, 0, 0, 0, 0], TRAPPED),
-    ([SECOND, 0, 0, 0, 0, 0], DONE),
-];
-
+/// InstallMultipleProtocolInterfaces: the first argument and the list after it, with the number of handle 4 at
+/// `FIRST` and that of a dead handle at `SECOND`.
 #[test]
 fn lists(rt: HostRuntime) -> Result<(), Fail> {
-    let mut world = prepared(&rt)?;
-    lists_in(&rt, &mut world)
-}
-
-fn lists_in(rt: &(impl AllocGlobal + Abort), world: &mut World) -> Result<(), Fail> {
-    world.write(SECOND, 8, 99)?;
-    for (list, served) in LISTS {
-        assert_eq!(rt; install_list(world, &list)?, served, "at {list:?}");
-    }
-    // the list is read before all else
-    world.write(STACK_END - 8, 8, 0)?;
-    assert_eq!(rt;
-        called_at(world, Service::InstallMultiple, STACK_END - 8)?,
-        TRAPPED
-    );
-    assert_eq!(rt;
-        (world.read(FIRST, 8), world.read(SECOND, 8)),
-        (Some(4), Some(99))
-    );
-    Ok(())
+    let s = Service::InstallMultiple;
+    let steps = [
+        Step::Writes(SECOND, 99),
+        Step::CallsList(s, &[0, BAD, 6, 0, 0, 0], INVALID),
+        Step::CallsList(s, &[TABLE, OTHER, 6, 0, 0, 0], TRAPPED),
+        Step::CallsList(s, &[TABLE_ONE, LOADED, 6, 0, 0, 0], TRAPPED),
+        // each GUID is read before a pair is judged
+        Step::CallsList(s, &[FIRST, NAME, 6, BAD, 7, 0], TRAPPED),
+        Step::CallsList(s, &[SECOND, OTHER, 6, BAD, 7, 0], TRAPPED),
+        // each alone
+        Step::CallsList(s, &[FIRST, NAME, 6, 0, 0, 0], INVALID),
+        Step::CallsList(s, &[FIRST, OTHER, 6, OTHER, 7, 0], INVALID),
+        Step::CallsList(s, &[SECOND, OTHER, 6, 0, 0, 0], INVALID),
+        // a list of no pairs: the handle's value is not looked at, but can be written
+        Step::CallsList(s, &[TABLE, 0, 0, 0, 0, 0], TRAPPED),
+        Step::CallsList(s, &[SECOND, 0, 0, 0, 0, 0], DONE),
+        // the list is read before all else
+        Step::Writes(STACK_END - 8, 0),
+        Step::CallsAt(s, STACK_END - 8, TRAPPED),
+        Step::Words(FIRST, &[4, 99]),
+    ];
+    from_protocol(&rt, &steps)
 }
