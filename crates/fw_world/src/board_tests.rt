@@ -1,5 +1,6 @@
 //! The board in the world: its root bridges at first, its option ROMs, and what no undo touches.
 ghost use Rattle.std.specs.Prelude.{◌≡◌, [], IfOk};
+ghost use Rattle.world_model.specs.Marks.{stacks};
 
 use crate::World;
 use fw_types::{Guid, Handle, Known};
@@ -7,10 +8,12 @@ use guest_memory::GuestMem;
 use pci_model::{BoardLine, DevRefusal, board_from};
 use std::process::Abort;
 use std::test::Fail;
+use world_model::laws::rest_is_free;
 
 /// Two root bridges, and a function with an option ROM of three bytes.
-fn on_two_roots(rt: &(impl AllocGlobal + Abort)) -> Result<World, Fail>
-    ensures { IfOk result (λ world. world.marks ≡ []) }
+pub(crate) fn on_two_roots(rt: &(impl AllocGlobal + Abort)) -> Result<World, Fail>
+    ensures marks { IfOk result (λ world. world.marks ≡ []) }
+    ensures stacks { IfOk result (λ world. stacks world.now.soft ≡ []) }
 {
     let lines = [
         BoardLine::Root { uid: 0, bus: 0 },
@@ -27,6 +30,7 @@ fn on_two_roots(rt: &(impl AllocGlobal + Abort)) -> Result<World, Fail>
             class: 0x02_0000,
         },
     ];
+    rest_is_free();
     let board = board_from(rt.alloc(), &lines)?;
     let mut roms = Vec::new(rt.alloc());
     roms.push(Some(vec![in rt.alloc(); 0x55, 0xAA, 1]?))?;

@@ -24,4 +24,6 @@ mod record_tests;
 #[cfg(test)]
 mod tests;
 #[cfg(test)]
+mod undo_table;
+#[cfg(test)]
 mod undo_tests;

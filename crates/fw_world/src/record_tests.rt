@@ -11,10 +11,10 @@ use std::process::Abort;
 use std::test::Fail;
 
 /// An open: its handle and protocol, and the agent, the controller and the attribute's bits.
-type Open = (u64, Known, (u64, u64, u32));
+pub(crate) type Open = (u64, Known, (u64, u64, u32));
 
 /// Enters an open if it may be entered, and says whether it was.
-fn open(world: &mut World, asked: Open) -> Result<bool, RecFault>
+pub(crate) fn open(world: &mut World, asked: Open) -> Result<bool, RecFault>
     ensures marks { OnOk result (world.new.marks ≡ world.old.marks) }
     ensures stacks { OnOk result (stacks world.new.now.soft ≡ stacks world.old.now.soft) }
 {
@@ -54,7 +54,10 @@ fn add_disk(rt: &impl AllocGlobal, world: &mut World) -> Result<[Handle; 3], Fai
 }
 
 /// Enters opens one after another.
-fn open_all(rt: &impl Abort, world: &mut World, opens: &[Open]) -> Result<(), RecFault> {
+pub(crate) fn open_all(rt: &impl Abort, world: &mut World, opens: &[Open]) -> Result<(), RecFault>
+    ensures marks { OnOk result (world.new.marks ≡ world.old.marks) }
+    ensures stacks { OnOk result (stacks world.new.now.soft ≡ stacks world.old.now.soft) }
+{
     for asked in opens {
         assert!(rt; open(world, *asked)?);
     }
@@ -141,7 +144,7 @@ fn records_on(world: &World, handle: Handle, guid: Guid) -> Result<usize, OutOfM
 }
 
 /// Removes an agent's records on a handle.
-fn leave_all(world: &mut World, handle: Handle, agent: u64) -> Result<u32, OutOfMemory>
+pub(crate) fn leave_all(world: &mut World, handle: Handle, agent: u64) -> Result<u32, OutOfMemory>
     ensures marks { OnOk result (world.new.marks ≡ world.old.marks) }
     ensures stacks { OnOk result (stacks world.new.now.soft ≡ stacks world.old.now.soft) }
 {
@@ -198,7 +201,7 @@ fn has_records(
 }
 
 /// Uninstalls PCI I/O from a handle.
-fn uninstall_pci(world: &mut World, handle: Handle) -> Result<(), DbRefusal>
+pub(crate) fn uninstall_pci(world: &mut World, handle: Handle) -> Result<(), DbRefusal>
     ensures marks { OnOk result (world.new.marks ≡ world.old.marks) }
     ensures stacks { OnOk result (stacks world.new.now.soft ≡ stacks world.old.now.soft) }
 {

@@ -307,7 +307,7 @@ fn list_of_children(rt: HostRuntime) -> Result<(), Fail> {
 }
 
 /// Makes a thunk if an image has the entry.
-fn thunk_into(world: &mut World, entry: u64) -> Result<Option<u64>, WorldFault>
+pub(crate) fn thunk_into(world: &mut World, entry: u64) -> Result<Option<u64>, WorldFault>
     ensures marks { OnOk result (world.new.marks ≡ world.old.marks) }
     ensures stacks { OnOk result (stacks world.new.now.soft ≡ stacks world.old.now.soft) }
 {
@@ -321,7 +321,7 @@ fn thunk_into(world: &mut World, entry: u64) -> Result<Option<u64>, WorldFault>
 }
 
 /// Puts bytes if they can be written.
-fn put_at(world: &mut World, at: u64, bytes: &[u8]) -> Result<bool, OutOfMemory>
+pub(crate) fn put_at(world: &mut World, at: u64, bytes: &[u8]) -> Result<bool, OutOfMemory>
     ensures marks { OnOk result (world.new.marks ≡ world.old.marks) }
     ensures stacks { OnOk result (stacks world.new.now.soft ≡ stacks world.old.now.soft) }
 {
@@ -334,7 +334,7 @@ fn put_at(world: &mut World, at: u64, bytes: &[u8]) -> Result<bool, OutOfMemory>
 }
 
 /// Puts a byte in many places if they can be written.
-fn fill_at(world: &mut World, at: u64, n: u64, byte: u8) -> Result<bool, OutOfMemory>
+pub(crate) fn fill_at(world: &mut World, at: u64, n: u64, byte: u8) -> Result<bool, OutOfMemory>
     ensures marks { OnOk result (world.new.marks ≡ world.old.marks) }
     ensures stacks { OnOk result (stacks world.new.now.soft ≡ stacks world.old.now.soft) }
 {

@@ -2,17 +2,18 @@
 ghost use Rattle.std.specs.Prelude.{◌≡◌, [], OnOk};
 ghost use Rattle.world_model.specs.Marks.{stacks};
 
+use crate::record_tests::uninstall_pci;
 use crate::tests::{bytes_of, opened};
 use crate::{World, WorldFault};
 use fw_types::{Guid, Handle, Known};
 use guest_memory::{GuestMem, MemRefusal, SegKind};
-use handle_db::DbRefusal;
 use std::process::Abort;
 use std::test::Fail;
+use world_model::Change;
 use world_model::laws::stacks_stand;
 
 /// Makes a block of the pool.
-fn allot_bytes(world: &mut World, bytes: Vec<u8>) -> Result<u64, WorldFault>
+pub(crate) fn allot_bytes(world: &mut World, bytes: Vec<u8>) -> Result<u64, WorldFault>
     ensures marks { OnOk result (world.new.marks ≡ world.old.marks) }
     ensures stacks { OnOk result (stacks world.new.now.soft ≡ stacks world.old.now.soft) }
 {
@@ -22,7 +23,7 @@ fn allot_bytes(world: &mut World, bytes: Vec<u8>) -> Result<u64, WorldFault>
 }
 
 /// Frees a block of the pool.
-fn free_block(world: &mut World, at: u64) -> Result<(), WorldFault>
+pub(crate) fn free_block(world: &mut World, at: u64) -> Result<(), WorldFault>
     ensures marks { OnOk result (world.new.marks ≡ world.old.marks) }
     ensures stacks { OnOk result (stacks world.new.now.soft ≡ stacks world.old.now.soft) }
 {
@@ -32,16 +33,8 @@ fn free_block(world: &mut World, at: u64) -> Result<(), WorldFault>
     Ok(())
 }
 
-/// Uninstalls PCI I/O from a handle.
-fn uninstall_pci(world: &mut World, handle: Handle) -> Result<(), DbRefusal>
-    ensures marks { OnOk result (world.new.marks ≡ world.old.marks) }
-    ensures stacks { OnOk result (stacks world.new.now.soft ≡ stacks world.old.now.soft) }
-{
-    world.uninstall(handle, Guid::known(Known::PciIo))
-}
-
 /// Writes two bytes.
-fn write_two(world: &mut World, at: u64, value: u64) -> Result<(), MemRefusal>
+pub(crate) fn write_two(world: &mut World, at: u64, value: u64) -> Result<(), MemRefusal>
     ensures marks { OnOk result (world.new.marks ≡ world.old.marks) }
     ensures stacks { OnOk result (stacks world.new.now.soft ≡ stacks world.old.now.soft) }
 {
@@ -134,4 +127,10 @@ fn no_copies(rt: HostRuntime) -> Result<(), Fail> {
     let world = opened(&rt)?;
     assert_eq!(rt; (world.copy(), world.clone()), (1, 2));
     Ok(())
+}
+
+/// A log takes as much for each change as the largest kind has.
+#[test]
+fn changes_are_small(rt: HostRuntime) {
+    assert_eq!(rt; std::mem::size_of::<Change>(), 56);
 }
