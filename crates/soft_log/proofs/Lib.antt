@@ -1,3 +1,4 @@
 pub mod Noting
 pub mod StacksLeftOut
 pub mod TakingBack
+pub mod NewBlocks

@@ -11,12 +11,13 @@ use Rattle.world_model.specs.declared.fault.WorldFault.TheVariants.{Full}
 use Rattle.undo_log.specs.Log.{Section, noted}
 use Rattle.world_model.specs.declared.change.Change.{Change}
 use Rattle.world_model.specs.declared.stack_levels.StackLevels.{StackLevels}
+use Rattle.soft_log.specs.declared.moment.Moment.{Moment}
 use Rattle.world_model.specs.World.{Soft}
 use Rattle.world_model.specs.Kept.{IsKept}
-use Rattle.world_model.specs.Undo.{AreLevelsOf, kept_by, later_levels, taken_back, undone, without_stacks}
-use Rattle.world_model.specs.UndoLaws.{CanTakeBack, CanUndo, IsNoted}
+use Rattle.world_model.specs.Undo.{kept_by, undone}
+use Rattle.world_model.specs.UndoLaws.{CanUndo, IsNoted}
 use Rattle.world_model.proofs.UndoNoted.{noted_beside_stacks}
-use Rattle.soft_log.specs.Keeping.{AreKept, kept_from}
+use Rattle.soft_log.specs.Keeping.{AreKept, IsMomentOf, kept_from}
 
 -- what one mark keeps stays
 pub kept_by_noted : (change : Change) (changes : List Change) (before after : Soft) (levels : StackLevels) → IsKept before → IsKept after → IsNoted change before after
@@ -24,34 +25,34 @@ pub kept_by_noted : (change : Change) (changes : List Change) (before after : So
 unfolding undone
 kept_by_noted change changes before after levels kept still is = ap (undone changes) (noted_beside_stacks change before after levels kept still is).0
 
-noted_from : (later : List Change) (marks : List (Section Change StackLevels)) (change : Change) (before after : Soft) → IsKept before → IsKept after → IsNoted change before after
+noted_from : (later : List Change) (marks : List (Section Change Moment)) (change : Change) (before after : Soft) → IsKept before → IsKept after → IsNoted change before after
     → kept_from (change ∷ later) marks after ≡ kept_from later marks before
 unfolding kept_from
 noted_from later [] change before after kept still is = refl
 noted_from later (mark ∷ marks) change before after kept still is =
-    ap (λ (first : Soft). first ∷ kept_from (change ∷ (later ++ mark.changes)) marks after) (kept_by_noted change (later ++ mark.changes) before after mark.carried kept still is)
-    ∙ ap (λ (others : List Soft). kept_by mark.carried (later ++ mark.changes) before ∷ others) (noted_from (later ++ mark.changes) marks change before after kept still is)
+    ap (λ (first : Soft). first ∷ kept_from (change ∷ (later ++ mark.changes)) marks after) (kept_by_noted change (later ++ mark.changes) before after mark.carried.levels kept still is)
+    ∙ ap (λ (others : List Soft). kept_by mark.carried.levels (later ++ mark.changes) before ∷ others) (noted_from (later ++ mark.changes) marks change before after kept still is)
 
-are_noted_from : (later : List Change) (marks : List (Section Change StackLevels)) (change : Change) (before after : Soft) → IsKept before → IsKept after → IsNoted change before after
+are_noted_from : (later : List Change) (marks : List (Section Change Moment)) (change : Change) (before after : Soft) → IsKept before → IsKept after → IsNoted change before after
     → AreKept later marks before → AreKept (change ∷ later) marks after
 unfolding AreKept
 are_noted_from later [] change before after kept still is are = tt
 are_noted_from later (mark ∷ marks) change before after kept still is are =
-    let one = noted_beside_stacks change before after mark.carried kept still is in
+    let one = noted_beside_stacks change before after mark.carried.levels kept still is in
     let changes = later ++ mark.changes in (
       (one.1, subst (CanUndo changes) (sym one.0) are.0),
-      subst (AreLevelsOf mark.carried) (sym (kept_by_noted change changes before after mark.carried kept still is)) are.1,
+      subst (IsMomentOf mark.carried) (sym (kept_by_noted change changes before after mark.carried.levels kept still is)) are.1,
       are_noted_from changes marks change before after kept still is are.2,
     )
 
 -- a change is noted: what the marks keep stays
-pub kept_noted : (marks : List (Section Change StackLevels)) (change : Change) (before after : Soft) → IsKept before → IsKept after → IsNoted change before after
+pub kept_noted : (marks : List (Section Change Moment)) (change : Change) (before after : Soft) → IsKept before → IsKept after → IsNoted change before after
     → kept_from [] (noted change marks) after ≡ kept_from [] marks before
 unfolding kept_from
 kept_noted [] change before after kept still is = refl
 kept_noted (mark ∷ marks) change before after kept still is = noted_from [] (mark ∷ marks) change before after kept still is
 
-pub are_noted : (marks : List (Section Change StackLevels)) (change : Change) (before after : Soft) → IsKept before → IsKept after → IsNoted change before after
+pub are_noted : (marks : List (Section Change Moment)) (change : Change) (before after : Soft) → IsKept before → IsKept after → IsNoted change before after
     → AreKept [] marks before → AreKept [] (noted change marks) after
 unfolding AreKept
 are_noted [] change before after kept still is are = tt

@@ -1,11 +1,13 @@
 -- The soft part beside its log: the soft part now, and what its open marks keep.
-use Rattle.std.specs.Prelude.{List, [], ◌∷◌, ◌++◌}
+use Rattle.std.specs.Prelude.{◌≡◌, ℕ, Bool, ◌&&◌, nat_le, List, [], ◌∷◌, ◌++◌, if◌then◌else◌}
+use Rattle.guest_memory.specs.declared.segment.Segment.{Segment}
 use Rattle.undo_log.specs.Log.{Section}
+use Rattle.soft_log.specs.declared.moment.Moment.{Moment}
 use Rattle.world_model.specs.declared.change.Change.{Change}
-use Rattle.world_model.specs.declared.stack_levels.StackLevels.{StackLevels}
 use Rattle.world_model.specs.World.{Soft}
 use Rattle.world_model.specs.Undo.{AreLevelsOf, kept_by, later_levels, without_stacks}
 use Rattle.world_model.specs.UndoLaws.{CanUndo}
+use Rattle.world_model.specs.BlockBytes.{emptied, is_large_block}
 
 -- the soft part now, and the soft parts that its open marks keep, the newest mark's first
 pub record MarkedSoft : Type 0 where
@@ -17,16 +19,30 @@ abbrev pub newest_of : (marks : List Soft) → (now : Soft) → Soft
 newest_of [] now = now
 newest_of (kept ∷ older) now = kept
 
+-- a moment is that of a soft part: the levels are those with a stack, and the address is that of the next block
+pub record IsMomentOf (moment : Moment) (soft : Soft) : Type 0 where
+  pub levels : AreLevelsOf moment.levels soft
+  pub next_block : moment.next_block ≡ soft.next_block
+
 -- What open marks keep, the newest first, by the levels that had a stack as each was made, and by the changes since: those
 -- that are later than all of these marks come first.
-unfoldable pub kept_from : (later : List Change) → List (Section Change StackLevels) → Soft → List Soft
+unfoldable pub kept_from : (later : List Change) → List (Section Change Moment) → Soft → List Soft
 kept_from later [] soft = []
-kept_from later (mark ∷ marks) soft = kept_by mark.carried (later ++ mark.changes) soft ∷ kept_from (later ++ mark.changes) marks soft
+kept_from later (mark ∷ marks) soft = kept_by mark.carried.levels (later ++ mark.changes) soft ∷ kept_from (later ++ mark.changes) marks soft
 
--- the changes since each mark can be taken back, and the levels that it carries are those with a stack in what it keeps
-unfoldable pub AreKept : (later : List Change) → List (Section Change StackLevels) → Soft → Type 0
+-- the changes since each mark can be taken back, and what it carries is of what it keeps
+unfoldable pub AreKept : (later : List Change) → List (Section Change Moment) → Soft → Type 0
 AreKept later [] soft = Unit {0}
 AreKept later (mark ∷ marks) soft =
-    CanUndo (later ++ mark.changes) (without_stacks (later_levels mark.carried) soft)
-    × AreLevelsOf mark.carried (kept_by mark.carried (later ++ mark.changes) soft)
+    CanUndo (later ++ mark.changes) (without_stacks (later_levels mark.carried.levels) soft)
+    × IsMomentOf mark.carried (kept_by mark.carried.levels (later ++ mark.changes) soft)
     × AreKept (later ++ mark.changes) marks soft
+
+-- whether a segment is a large block that was made when the next block lay at an address, or later
+abbrev pub is_new_block : (next_block : ℕ) → Segment → Bool
+is_new_block next_block segment = nat_le next_block segment.base && is_large_block segment.base segment
+
+-- what is noted of a block that was freed: a large one that was made since the newest mark is noted without its bytes
+abbrev pub segment_noted : List (Section Change Moment) → Segment → Segment
+segment_noted [] segment = segment
+segment_noted (newest ∷ older) segment = if is_new_block newest.carried.next_block segment then emptied segment else segment

@@ -6,6 +6,7 @@
 //! change first makes room for its note, then makes the change, and then notes it without memory.
 #![tactic(auto)]
 
+mod moment;
 mod soft_log;
 
 pub use soft_log::SoftLog;

@@ -25,18 +25,22 @@ ghost use Rattle.world_model.specs.Thunks.{thunk_answer, thunk_made};
 ghost use Rattle.world_model.specs.World.{with_memory, with_tpl};
 ghost use Rattle.world_model.specs.Undo.{taken_back};
 ghost use Rattle.world_model.specs.UndoLaws.{CanTakeBack};
-ghost use Rattle.soft_log.specs.Keeping.{newest_of};
+ghost use Rattle.soft_log.specs.Keeping.{is_new_block, newest_of, segment_noted};
 
+use crate::moment::Moment;
 use ebc_machine::Cpu;
 use fw_types::{Attr, Guid, Handle, OutOfMemory, Rows};
-use guest_memory::{GuestMem, MemRefusal, SegKind};
+use guest_memory::{GuestMem, MemRefusal, SegKind, Segment};
 use handle_db::DbRefusal;
 use open_records::{Choice, RecFault};
 use soft_part::SoftPart;
 use std::alloc::Global;
 use std::marker::Model;
 use undo_log::{Log, Mark};
-use world_model::{Change, LoadedImage, StackLevels, WorldFault};
+use world_model::{Change, LoadedImage, WorldFault};
+
+/// How many bytes a loaded image block has.
+const IMAGE_BLOCK_SIZE: usize = 96;
 
 /// A soft part, and the changes since its open marks.
 ///
@@ -45,7 +49,7 @@ use world_model::{Change, LoadedImage, StackLevels, WorldFault};
 pub struct SoftLog {
     alloc: Global,
     soft: SoftPart,
-    log: Log<Change, StackLevels>,
+    log: Log<Change, Moment>,
 }
 
 impl Model for SoftLog {
@@ -217,8 +221,9 @@ impl SoftLog {
     {
         self.log.reserve()?;
         self.soft.is_kept();
-        let segment = self.soft.free(at, kind)?;
+        let freed = self.soft.free(at, kind)?;
         self.soft.is_kept();
+        let segment = noted_segment(self.alloc, &self.log, freed);
         self.log.note(Change::Free { segment });
         Ok(())
     }
@@ -663,7 +668,8 @@ impl SoftLog {
     {
         self.soft.is_kept();
         let levels = self.soft.levels();
-        self.log.mark(levels)
+        let next_block = self.soft.next_block();
+        self.log.mark(Moment { levels, next_block })
     }
 
     /// Puts the soft part back that a mark keeps, and spends the mark. It is the newest that is
@@ -710,6 +716,36 @@ fn bytes_before(alloc: Global, soft: &SoftPart, at: u64, n: u64) -> Result<Rows<
     Ok(Rows::of(Vec::from_slice(alloc, soft.bytes(at, n))?))
 }
 
+/// What is noted of a block that was freed: what was mapped there, but no bytes of a large block of the
+/// pool that was made since the newest mark. To take its making back removes it, so that no mark has to
+/// do with its bytes, and a driver that makes and frees blocks in one call does not fill the log.
+fn noted_segment(alloc: Global, log: &Log<Change, Moment>, freed: Segment) -> Segment
+    ensures { result ≡ segment_noted log.now.marks freed }
+{
+    let Some(moment) = log.carried() else {
+        return freed;
+    };
+    if is_new_block(&freed, moment.next_block) {
+        Segment {
+            base: freed.base,
+            bytes: Rows::of(Vec::new(alloc)),
+            kind: freed.kind,
+        }
+    } else {
+        freed
+    }
+}
+
+/// Whether a segment is a large block of the pool that was made when the next block lay at an address,
+/// or later.
+fn is_new_block(segment: &Segment, next_block: u64) -> bool
+    ensures { result ≡ is_new_block next_block segment.now }
+{
+    next_block <= segment.base
+        && matches!(segment.kind, SegKind::Pool)
+        && segment.bytes.as_slice().len() > IMAGE_BLOCK_SIZE
+}
+
 /// Takes a change back. On want of memory there is no way back to any mark, so all are given up.
 ///
 /// # Errors
@@ -717,7 +753,7 @@ fn bytes_before(alloc: Global, soft: &SoftPart, at: u64, n: u64) -> Result<Rows<
 /// `OutOfMemory` if there is no memory.
 fn take_back(
     soft: &mut SoftPart,
-    log: &mut Log<Change, StackLevels>,
+    log: &mut Log<Change, Moment>,
     change: Change,
 ) -> Result<(), OutOfMemory>
     requires { CanTakeBack change soft.old }

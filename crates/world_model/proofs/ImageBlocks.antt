@@ -1,5 +1,5 @@
 -- The loaded image block of an image can be read.
-use Rattle.std.proofs.Common.{◌≡◌, ◌≤◌, ℕ, ◌+◌, Bool, true, ◌&&◌, ◌||◌, nat_eq, nat_le, List, [], ◌∷◌, length, Some, sym, ap, ◌∙◌, inl, inr, refl, arith}
+use Rattle.std.proofs.Common.{◌≡◌, ℕ, ◌+◌, true, ◌&&◌, nat_eq, nat_le, List, [], ◌∷◌, length, Some, ◌∙◌, inl, inr, arith}
 use Rattle.std.specs.List.{list_any}
 use Rattle.std.proofs.lemmas.Bool.{and_from, and_parts, eqb-true, le-leb, or_cases, or_left, or_right}
 use Rattle.guest_memory.specs.declared.segment.Segment.{Segment}

@@ -39,5 +39,7 @@ pub mod NestedLaws
 pub mod UndoSegments
 pub mod UndoStacks
 pub mod UndoLists
+pub mod EmptiedSegments
 pub mod UndoNoted
+pub mod BlockBytes
 pub mod UndoRecords

@@ -1,6 +1,6 @@
 -- Elements that were taken out of a list, put back in their places.
-use Rattle.std.proofs.Common.{◌≡◌, ℕ, ◌+◌, Bool, true, false, not, ◌||◌, ◌&&◌, cond, nat_eq, nat_le, nat_lt, List, [], ◌∷◌, ◌++◌, filter, find, refl, sym, ap, ◌∙◌, suc, arith}
-use Rattle.std.specs.Prelude.{insert, Option, Some, None, if◌then◌else◌}
+use Rattle.std.proofs.Common.{◌≡◌, ℕ, ◌+◌, Bool, true, false, not, ◌||◌, ◌&&◌, cond, nat_eq, nat_le, nat_lt, List, [], ◌∷◌, filter, find, refl, sym, ap, ◌∙◌, arith}
+use Rattle.std.specs.Prelude.{insert, Some, None}
 use Rattle.std.specs.Bool.{MatchBool}
 use Rattle.std.specs.List.{list_all, list_any, position_or_len}
 use Rattle.std.proofs.Math.Numerals.{one-add}
@@ -10,10 +10,10 @@ use Rattle.world_model.specs.declared.bus_child.BusChild.{BusChild}
 use Rattle.world_model.specs.declared.image.LoadedImage.{LoadedImage}
 use Rattle.world_model.specs.declared.thunk.Thunk.{Thunk}
 use Rattle.world_model.specs.BusChildren.{is_child, without_child}
-use Rattle.world_model.specs.Images.{image_of, without_image}
+use Rattle.world_model.specs.Images.{image_of}
 use Rattle.world_model.specs.Kept.{are_apart, images_rise, numbers_rise}
 use Rattle.world_model.specs.Undo.{with_thunk, with_thunks}
-use Rattle.world_model.proofs.Segments.{list_all-filter, list_all-mono}
+use Rattle.world_model.proofs.Segments.{list_all-filter}
 
 -- ---- one element
 

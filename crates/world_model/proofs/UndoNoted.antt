@@ -1,19 +1,17 @@
 -- Each change, made and taken back; and what is noted, beside the stacks that a mark leaves out.
-use Rattle.std.proofs.Common.{◌≡◌, ◌≤◌, ◌<◌, ℕ, ◌+◌, ◌-◌, Bool, true, false, not, ◌&&◌, ◌||◌, cond, nat_eq, nat_le, nat_lt, List, [], ◌∷◌, ◌++◌, length, take, filter, set, Option, Some, None, refl, sym, ap, subst, ◌∙◌, arith, length-append}
-use Rattle.std.specs.Prelude.{Ok, Err, Result, is_ok, is_some, option_map, slice_set, unwrap_or, slice_get, if◌then◌else◌}
-use Rattle.std.specs.List.{list_all, list_any}
-use Rattle.std.proofs.lemmas.Bool.{and_from, and_parts, eqb-true, or_right}
+use Rattle.std.proofs.Common.{◌≡◌, ◌≤◌, ◌<◌, ℕ, ◌+◌, ◌-◌, Bool, true, false, cond, nat_eq, nat_le, nat_lt, List, [], ◌∷◌, ◌++◌, length, take, filter, set, Option, Some, None, refl, sym, ap, subst, ◌∙◌, arith, length-append}
+use Rattle.std.specs.Prelude.{Ok, Result, is_ok, is_some, option_map, slice_set}
+use Rattle.std.specs.List.{list_all}
+use Rattle.std.proofs.lemmas.Bool.{and_parts, eqb-true, or_right}
 use Rattle.std.proofs.lemmas.Bool.Decides.{nat_tests}
 use Rattle.std.proofs.lemmas.List.{set-get_or, set-set, take_at}
 use Rattle.std.proofs.lemmas.Option.{unwrap_or-slice_get}
 use Rattle.byteorder.specs.Endian.{little_bytes}
 use Rattle.byteorder.specs.Numbers.{length-bytes_low_first}
 use Rattle.guest_memory.specs.declared.guest.MemRefusal.{MemRefusal}
-use Rattle.guest_memory.specs.declared.guest.MemRefusal.TheVariants.{NoSegment}
 use Rattle.guest_memory.specs.declared.segment.Segment.{Segment}
-use Rattle.guest_memory.specs.declared.segment.SegKind.{SegKind}
 use Rattle.guest_memory.specs.declared.address_map.TheConstants.{FIRST_BLOCK, FIRST_IMAGE}
-use Rattle.guest_memory.specs.Segment.{is_block, is_writable, with_bytes}
+use Rattle.guest_memory.specs.Segment.{is_writable, with_bytes}
 use Rattle.guest_memory.specs.GuestMemory.{answer_in, beginning_at, begins, bytes_in, bytes_of, holder, is_writable_holder, is_writable_range, lie_from, mapped, put_bytes, unmapped, write_answer, written}
 use Rattle.guest_memory.proofs.MappingLemmas.{mapped_takes_back_unmapped, unmapped_takes_back_mapped}
 use Rattle.guest_memory.proofs.PutLemmas.{put_bytes-empty, put_bytes-none}
@@ -35,14 +33,13 @@ use Rattle.world_model.specs.declared.change.Change.{Change}
 use Rattle.world_model.specs.declared.change.Change.TheVariants.{SetTpl, Write, Put, Allot, Free, Install, Uninstall, Enter, Leave, DropImage, AddImage, MakeThunk, NoteChild, SetBusList}
 use Rattle.world_model.specs.declared.stack_levels.StackLevels.{StackLevels}
 use Rattle.world_model.specs.declared.thunk.Thunk.{Thunk}
-use Rattle.world_model.specs.World.{Soft, with_memory, with_tpl}
-use Rattle.world_model.specs.Blocks.{block_added, block_segment, block_freed, is_image_block}
-use Rattle.world_model.specs.BusChildren.{child_noted, pci_io_of, rom_images, with_bus_list}
+use Rattle.world_model.specs.World.{Soft, with_memory}
+use Rattle.world_model.specs.Blocks.{block_segment, is_image_block}
+use Rattle.world_model.specs.BusChildren.{pci_io_of, rom_images}
 use Rattle.world_model.specs.Marks.{stacks}
 use Rattle.world_model.specs.Kept.{IsKept}
-use Rattle.world_model.specs.Thunks.{thunk_made}
 use Rattle.world_model.specs.Undo.{front, later_levels, put_if_there, taken_back, undone, without_stacks}
-use Rattle.world_model.specs.UndoLaws.{AddImageIsNoted, AllotIsNoted, BusListIsNoted, CanTakeBack, CanUndo, ChildIsNoted, Fits, FreeIsNoted, InstallIsNoted, IsNoted, NotedBesideStacks, PutIsNoted, TakenBesideStacks, ThunkIsNoted, TplIsNoted, UndoingLeavesStacks, WriteIsNoted, addresses_in}
+use Rattle.world_model.specs.UndoLaws.{AddImageIsNoted, AllotIsNoted, BusListIsNoted, ChildIsNoted, Fits, FreeIsNoted, InstallIsNoted, IsNoted, NotedBesideStacks, PutIsNoted, TakenBesideStacks, ThunkIsNoted, TplIsNoted, UndoingLeavesStacks, WriteIsNoted, addresses_in}
 use Rattle.world_model.proofs.ImageSegments.{block_from}
 use Rattle.world_model.proofs.KeepingBlocks.{freed_is, ranges}
 use Rattle.world_model.proofs.Segments.{list_all-mono}
@@ -109,7 +106,7 @@ restored_bytes segments at (b ∷ bytes) can = restored segments at (b ∷ bytes
 
 pub tpl_is_noted : TplIsNoted
 unfolding taken_back
-tpl_is_noted soft tpl = record { back = refl; stacks = refl; beside = refl; fits = tt }
+tpl_is_noted soft tpl = record { back = refl; stacks = refl; rises = omega arith; beside = refl; fits = tt }
 
 pub write_is_noted : WriteIsNoted
 unfolding taken_back
@@ -118,6 +115,7 @@ write_is_noted soft at n value before kept done is = record {
       ap (λ (memory : List Segment). with_memory memory soft)
       (ap (λ (bytes : List ℕ). put_if_there at bytes (written soft.memory at n value)) is ∙ restored_number soft.memory at n value done);
   stacks = writing soft at n value;
+  rises = omega arith;
   beside = refl;
   fits = tt;
 }
@@ -127,6 +125,7 @@ unfolding taken_back
 put_is_noted soft at bytes kept can = record {
   back = ap (λ (memory : List Segment). with_memory memory soft) (restored_bytes soft.memory at bytes can);
   stacks = putting soft at bytes;
+  rises = omega arith;
   beside = refl;
   fits = tt;
 }
@@ -141,6 +140,7 @@ unfolding taken_back
 allot_is_noted soft bytes kind kept is = record {
   back = ap (λ (memory : List Segment). with_memory memory soft) (unmapped_takes_back_mapped soft.memory (block_segment bytes kind soft));
   stacks = allotting soft bytes kind is;
+  rises = omega arith;
   beside = one_high soft.next_block (ranges soft kept).block_from;
   fits = tt;
 }
@@ -164,6 +164,7 @@ free_is_noted soft at of segment kept is done found =
     record {
       back = ap (λ (memory : List Segment). with_memory memory soft) (mapped_takes_back_unmapped soft.memory at segment kept.memory.apart found);
       stacks = freeing soft at of kept is done;
+      rises = omega arith;
       beside = one_high segment.base (omega (arith, from, base));
       fits = tt;
     }
@@ -177,6 +178,7 @@ install_is_noted soft given new kept done =
     record {
       back = ap (λ (db : Database). record soft { database = db }) undone.1;
       stacks = refl;
+      rises = omega arith;
       beside = refl;
       fits = undone.0;
     }
@@ -207,6 +209,7 @@ add_image_is_noted soft bytes entry subsystem device kept room =
           ∙ ap (λ (db : Database). record soft { database = db; images = front (soft.images ++ next_loaded entry soft ∷ []) }) undone.1
           ∙ ap (λ (images : List LoadedImage). record soft { images = images }) (front-last soft.images (next_loaded entry soft));
       stacks = adding soft bytes entry subsystem device;
+      rises = omega arith;
       beside = rw (image_high, block_high) refl;
       fits = undone.0;
     }
@@ -222,6 +225,7 @@ thunk_is_noted soft entry =
           ap (λ (thunks : List Thunk). record soft { thunks = thunks; next_thunk = soft.next_thunk + 1 - 1 }) (front-last soft.thunks (record { number = soft.next_thunk; entry = entry }))
           ∙ ap (λ (next : ℕ). record soft { next_thunk = next }) less;
       stacks = refl;
+      rises = omega arith;
       beside = refl;
       fits = tt;
     }
@@ -239,12 +243,14 @@ child_noted-more soft handle function true =
     record {
       back = ap (λ (children : List BusChild). record soft { bus_children = children }) (take_at soft.bus_children (child ∷ []) (length soft.bus_children) refl);
       stacks = refl;
+      rises = omega arith;
       beside = refl;
       fits = tt;
     }
 child_noted-more soft handle function false = record {
   back = ap (λ (children : List BusChild). record soft { bus_children = children }) (take-all soft.bus_children);
   stacks = refl;
+  rises = omega arith;
   beside = refl;
   fits = tt;
 }
@@ -258,7 +264,7 @@ bus_list_is_noted soft function images =
     let lists = soft.bus_lists in
     let same : slice_set (slice_set lists function (Some images)) function (rom_images function soft) ≡ lists =
     set-set lists function (Some images) (rom_images function soft) ∙ ap (set lists function) (unwrap_or-slice_get lists function None) ∙ set-get_or lists function None in
-    record { back = ap (λ (lists : List (Option (List ℕ))). record soft { bus_lists = lists }) same; stacks = refl; beside = refl; fits = tt }
+    record { back = ap (λ (lists : List (Option (List ℕ))). record soft { bus_lists = lists }) same; stacks = refl; rises = omega arith; beside = refl; fits = tt }
 
 -- ---- beside the stacks that are left out
 
@@ -313,7 +319,8 @@ noted_beside_stacks change before after levels kept still noted =
     let same : taken_back change (without_stacks later after) ≡ without_stacks later before = taken_beside_stacks change after levels still noted.beside ∙ ap (without_stacks later) noted.back in
     let stand : stacks (taken_back change (without_stacks later after)) ≡ stacks (without_stacks later after) =
     ap stacks same ∙ stacks-without later before ∙ ap (filter (stays later)) (sym noted.stacks) ∙ sym (stacks-without later after) in
-    (same, record { kept = subst IsKept (sym same) (kept-without later before are kept); stacks = stand; beside = noted.beside; fits = fits_still change after levels noted.fits })
+    let less : (taken_back change (without_stacks later after)).next_block ≤ after.next_block = subst (λ (next : ℕ). next ≤ after.next_block) (sym (ap (λ (soft : Soft). soft.next_block) same)) noted.rises in
+    (same, record { kept = subst IsKept (sym same) (kept-without later before are kept); stacks = stand; rises = less; beside = noted.beside; fits = fits_still change after levels noted.fits })
 
 pub undoing_leaves_stacks : UndoingLeavesStacks
 unfolding undone

@@ -1,7 +1,7 @@
 -- Changes of the records, and those that take interfaces with their records, made and taken back.
-use Rattle.std.proofs.Common.{◌≡◌, ◌≤◌, ℕ, Bool, true, false, not, ◌&&◌, ◌||◌, cond, nat_eq, nat_le, List, [], ◌∷◌, filter, find, Option, Some, None, refl, sym, ap, ◌∙◌, arith}
-use Rattle.std.specs.Prelude.{Ok, Result, bytes_eq, insert, option_map, if◌then◌else◌}
-use Rattle.std.specs.List.{list_all, position_or_len}
+use Rattle.std.proofs.Common.{◌≡◌, ℕ, Bool, true, false, not, ◌&&◌, ◌||◌, cond, nat_eq, nat_le, List, [], ◌∷◌, filter, find, Option, Some, None, refl, sym, ap, ◌∙◌, arith}
+use Rattle.std.specs.Prelude.{Ok, Result, bytes_eq, insert, option_map}
+use Rattle.std.specs.List.{position_or_len}
 use Rattle.std.proofs.lemmas.Bool.{eqb-true}
 use Rattle.std.proofs.lemmas.Bool.Decides.{nat_tests}
 use Rattle.fw_types.specs.declared.attr.TheConstants.Attr.{ALL_BITS}
@@ -19,7 +19,6 @@ use Rattle.handle_db.specs.Undoing.{remove_undone}
 use Rattle.handle_db.specs.declared.refusal.Removed.{Removed}
 use Rattle.handle_db.proofs.RemovalBack.{undone as removal_undone}
 use Rattle.open_records.specs.declared.open_record.KeyedRecord.{KeyedRecord}
-use Rattle.open_records.specs.declared.undoing.Choice.{Choice}
 use Rattle.open_records.specs.declared.undoing.Choice.TheVariants.{WithInterface}
 use Rattle.open_records.specs.Leaving.{cut, is_meant, is_named, swept}
 use Rattle.open_records.specs.OpenRecords.{IsSound as RecordsAreSound, RecordTable, is_of}
@@ -27,14 +26,14 @@ use Rattle.open_records.specs.PuttingBack.{picks, put_back, without_passing}
 use Rattle.open_records.proofs.CountingBackLemmas.{counting_back}
 use Rattle.open_records.proofs.PuttingBackLemmas.{putting_back}
 use Rattle.world_model.specs.declared.bus_child.BusChild.{BusChild}
-use Rattle.world_model.specs.declared.change.Change.TheVariants.{Uninstall, Enter, Leave, DropImage}
+use Rattle.world_model.specs.declared.change.Change.TheVariants.{DropImage}
 use Rattle.world_model.specs.declared.image.LoadedImage.{LoadedImage}
 use Rattle.world_model.specs.declared.thunk.Thunk.{Thunk}
 use Rattle.world_model.specs.BusChildren.{children_left, is_child, without_child}
 use Rattle.world_model.specs.Images.{image_of, without_image, without_loaded}
 use Rattle.world_model.specs.Kept.{IsKept, are_apart}
 use Rattle.world_model.specs.Marks.{stacks}
-use Rattle.world_model.specs.Records.{records_removed, unless_live, with_records}
+use Rattle.world_model.specs.Records.{records_removed, with_records}
 use Rattle.world_model.specs.Thunks.{enters, without_thunks}
 use Rattle.world_model.specs.Undo.{taken_back, with_child, with_thunks}
 use Rattle.world_model.specs.UndoLaws.{DropImageIsNoted, EnterIsNoted, IsNoted, LeaveIsNoted, UninstallIsNoted, child_gone, dropped_of, gone_with, is_of_handle}
@@ -88,6 +87,7 @@ unfolding taken_back
 enter_is_noted soft handle guid agent controller attr kept = record {
   back = ap (λ (records : RecordTable). with_records records soft) (counting_back soft.records kept.records.sound handle guid agent controller attr);
   stacks = refl;
+  rises = omega arith;
   beside = refl;
   fits = tt;
 }
@@ -97,6 +97,7 @@ unfolding taken_back
 leave_is_noted soft choice kept = record {
   back = ap (λ (records : RecordTable). with_records records soft) (putting_back (picks choice) soft.records kept.records.sound);
   stacks = refl;
+  rises = omega arith;
   beside = refl;
   fits = tt;
 }
@@ -131,6 +132,7 @@ uninstall_is_noted soft handle guid r kept answer =
           ∙ ap (λ (table : RecordTable). record soft { records = table; bus_children = with_child child left }) (records_back handle guid r after soft.records kept.records.sound undone.0.live)
           ∙ ap (λ (children : List BusChild). record soft { bus_children = children }) (children_back handle guid soft.bus_children kept.children.apart);
       stacks = refl;
+      rises = omega arith;
       beside = refl;
       fits = undone.0;
     }
@@ -207,6 +209,7 @@ image_gone soft handle image segment block r kept is found next answer =
           }) (one_back (is_of_handle image.handle) soft.images image (image_only 3 FIRST_IMAGE FIRST_BLOCK image.handle image soft.images soft.database.next soft.next_image soft.next_block kept.images.rising own))
           ∙ ap (λ (all : List Thunk). record soft { thunks = all }) (thunks_back (enters segment) 0 soft.thunks soft.next_thunk kept.thunks.numbers);
       stacks = ap (λ (found : Option LoadedImage). stacks (without_loaded found soft)) (sym is) ∙ dropping soft handle kept;
+      rises = omega arith;
       beside = rw (base_high, block_high) refl;
       fits = undone.0;
     }

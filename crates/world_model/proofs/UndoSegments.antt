@@ -1,17 +1,16 @@
 -- Segments that are left out by their addresses, as they are mapped and unmapped and as bytes are put back.
-use Rattle.std.proofs.Common.{◌≡◌, ◌≤◌, ◌<◌, ℕ, ◌+◌, Bool, true, false, not, ◌&&◌, ◌||◌, cond, nat_eq, nat_le, nat_lt, List, [], ◌∷◌, length, filter, Option, Some, None, refl, sym, ap, ◌∙◌, arith}
-use Rattle.std.specs.Prelude.{if◌then◌else◌}
+use Rattle.std.proofs.Common.{◌≡◌, ◌≤◌, ◌<◌, ℕ, ◌+◌, Bool, true, false, not, ◌&&◌, cond, nat_eq, nat_le, nat_lt, List, [], ◌∷◌, length, filter, Some, refl, sym, ap, ◌∙◌, arith}
 use Rattle.std.specs.List.{list_all, list_any}
-use Rattle.std.proofs.lemmas.Bool.{and_from, and_parts, eqb-true, not-true, or_from, or_parts}
+use Rattle.std.proofs.lemmas.Bool.{and_from, and_parts, eqb-true, or_from, or_parts}
 use Rattle.std.proofs.lemmas.Bool.Decides.{nat_tests}
 use Rattle.guest_memory.specs.declared.segment.Segment.{Segment}
 use Rattle.guest_memory.specs.declared.segment.SegKind.{SegKind}
 use Rattle.guest_memory.specs.Segment.{end_of, has_bytes, is_writable, with_bytes}
-use Rattle.guest_memory.specs.GuestMemory.{holder, is_of, is_writable_holder, is_writable_range, lie_from, mapped, put_bytes, unmapped}
+use Rattle.guest_memory.specs.GuestMemory.{holder, is_of, is_writable_holder, lie_from, mapped, put_bytes, unmapped}
 use Rattle.guest_memory.proofs.PutLemmas.{put_bytes-none}
 use Rattle.world_model.specs.World.{bases}
 use Rattle.world_model.specs.Undo.{put_if_there}
-use Rattle.world_model.proofs.Segments.{list_all-filter, list_all-mono, list_all-not}
+use Rattle.world_model.proofs.Segments.{list_all-filter, list_all-mono}
 use Rattle.world_model.proofs.Bases.{bases-cons}
 use Rattle.world_model.proofs.FixedSegments.{all_from, mapped-first}
 
@@ -146,7 +145,7 @@ at-mapped_none p new (s ∷ rest) fails = mapped_none-more p new s rest (nat_lt 
 -- ---- bytes that are put back
 
 -- bytes in the segment that has their range, if it can be written
-abbrev put_there : (at : ℕ) → List ℕ → List Segment → List Segment
+abbrev pub put_there : (at : ℕ) → List ℕ → List Segment → List Segment
 put_there at bytes [] = []
 put_there at bytes (s ∷ rest) = cond (has_bytes s at (length bytes)) (cond (is_writable s.kind) (with_bytes s at bytes) s ∷ rest) (s ∷ put_there at bytes rest)
 
@@ -171,7 +170,7 @@ put_there-none-more at bytes s rest true own none later = absurd cc
 put_there-none-more at bytes s rest false own none later = ap (λ xs. s ∷ xs) later
 
 -- where no segment has the range
-put_there-none : (at : ℕ) (bytes : List ℕ) (segments : List Segment) → list_all (λ (s : Segment). not (has_bytes s at (length bytes))) segments ≡ true → put_there at bytes segments ≡ segments
+pub put_there-none : (at : ℕ) (bytes : List ℕ) (segments : List Segment) → list_all (λ (s : Segment). not (has_bytes s at (length bytes))) segments ≡ true → put_there at bytes segments ≡ segments
 put_there-none at bytes [] none = refl
 put_there-none at bytes (s ∷ rest) none =
     let parts = and_parts (not (has_bytes s at (length bytes))) (list_all (λ (s : Segment). not (has_bytes s at (length bytes))) rest) none in
@@ -181,7 +180,7 @@ put_there-none at bytes (s ∷ rest) none =
 apart_behind : (s r : Segment) (at n : ℕ) → 0 < n → has_bytes s at n ≡ true → nat_le (end_of s) r.base ≡ true → not (has_bytes r at n) ≡ true
 apart_behind s r at n some has behind = grind (arith, nat_tests, some, has, behind)
 
-none_behind : (s : Segment) (rest : List Segment) (at n : ℕ) → 0 < n → has_bytes s at n ≡ true → lie_from (end_of s) rest ≡ true → list_all (λ (r : Segment). not (has_bytes r at n)) rest ≡ true
+pub none_behind : (s : Segment) (rest : List Segment) (at n : ℕ) → 0 < n → has_bytes s at n ≡ true → lie_from (end_of s) rest ≡ true → list_all (λ (r : Segment). not (has_bytes r at n)) rest ≡ true
 none_behind s rest at n some has lies =
     list_all-mono (λ (r : Segment). nat_le (end_of s) r.base) (λ (r : Segment). not (has_bytes r at n)) rest (λ r behind. apart_behind s r at n some has behind) (all_from (end_of s) (end_of s) rest lies (omega arith))
 
@@ -209,10 +208,10 @@ at-put_there p from at bytes (s ∷ rest) lies some =
     let parts = and_parts (nat_le from s.base) (lie_from (end_of s) rest) lies in
     at-put-more p at bytes s rest (has_bytes s at (length bytes)) (is_writable s.kind) (p s.base) refl refl refl some parts.1 (at-put_there p (end_of s) at bytes rest parts.1 some)
 
-put_if_there-none : (at : ℕ) (segments : List Segment) → put_if_there at [] segments ≡ segments
+pub put_if_there-none : (at : ℕ) (segments : List Segment) → put_if_there at [] segments ≡ segments
 put_if_there-none at segments = put_bytes-none segments at
 
-put_if_there-is : (at : ℕ) (bytes : List ℕ) (segments : List Segment) → 0 < length bytes → put_if_there at bytes segments ≡ put_there at bytes segments
+pub put_if_there-is : (at : ℕ) (bytes : List ℕ) (segments : List Segment) → 0 < length bytes → put_if_there at bytes segments ≡ put_there at bytes segments
 put_if_there-is at bytes segments some =
     let more : nat_eq (length bytes) 0 ≡ false = grind (arith, nat_tests, some) in
     rw more (put_there-is at bytes segments)

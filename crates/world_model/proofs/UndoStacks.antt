@@ -1,5 +1,5 @@
 -- The stacks that are left out of what a mark keeps.
-use Rattle.std.proofs.Common.{◌≡◌, ◌≤◌, ◌<◌, ◌⊎◌, inl, inr, ℕ, ◌+◌, max, Bool, true, false, not, ◌&&◌, ◌||◌, nat_eq, nat_le, nat_lt, List, [], ◌∷◌, length, filter, refl, sym, ap, subst, ◌∙◌, zero, suc, arith}
+use Rattle.std.proofs.Common.{◌≡◌, ◌≤◌, ◌<◌, inl, inr, ℕ, ◌+◌, Bool, true, false, not, ◌&&◌, ◌||◌, nat_eq, nat_le, nat_lt, List, [], ◌∷◌, length, filter, refl, sym, ap, subst, ◌∙◌, zero, suc, arith}
 use Rattle.std.specs.List.{list_all, list_any, range_with_len}
 use Rattle.std.proofs.lemmas.Bool.{and_from, and_parts, both_ways, eqb-true, or_left, or_right}
 use Rattle.std.proofs.lemmas.Bool.Decides.{nat_tests}
@@ -7,13 +7,13 @@ use Rattle.guest_memory.specs.declared.segment.Segment.{Segment}
 use Rattle.guest_memory.specs.declared.segment.SegKind.{SegKind}
 use Rattle.guest_memory.specs.declared.segment.SegKind.TheVariants as kind
 use Rattle.guest_memory.specs.GuestMemory.{is_of, kind_number, lie_from, unmapped, mapped}
-use Rattle.guest_memory.specs.declared.address_map.TheConstants.{FIRST_IMAGE, LIST_ROOM, STACK_SIZE}
+use Rattle.guest_memory.specs.declared.address_map.TheConstants.{FIRST_IMAGE}
 use Rattle.guest_memory.proofs.SegmentLemmas.{lie_from-unmapped}
 use Rattle.fw_types.specs.declared.limits.TheConstants.{MOST_LEVELS}
 use Rattle.world_model.specs.declared.stack_levels.StackLevels.{StackLevels}
-use Rattle.world_model.specs.World.{Soft, bases, with_memory}
+use Rattle.world_model.specs.World.{Soft, with_memory}
 use Rattle.world_model.specs.Marks.{stacks}
-use Rattle.world_model.specs.Stacks.{has_list, has_stack, list_base, list_segment, stack_base, stack_popped, stack_pushed, stack_segment}
+use Rattle.world_model.specs.Stacks.{has_list, has_stack, list_base, list_segment, stack_base, stack_popped, stack_segment}
 use Rattle.world_model.specs.Kept.{IsKept, is_in_region, is_placed}
 use Rattle.world_model.specs.Undo.{had_stack, is_of_levels, later_levels, without_stacks}
 use Rattle.world_model.specs.UndoLaws.{LeftStackIsThere, NoneIsLeftOut, PoppedIsLeftOut, PushedIsLeftOut}

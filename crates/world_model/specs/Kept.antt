@@ -8,7 +8,7 @@ use Rattle.guest_memory.specs.declared.segment.SegKind.{SegKind}
 use Rattle.guest_memory.specs.declared.segment.SegKind.TheVariants.{Image, Pool, Firmware, Stack, Table}
 use Rattle.guest_memory.specs.Segment.{has_bytes}
 use Rattle.guest_memory.specs.GuestMemory.{image_with, is_of, lie_from, is_readable, is_writable_range}
-use Rattle.handle_db.specs.Database.{Database, IsSound, interface_of, has, is_live}
+use Rattle.handle_db.specs.Database.{Database, IsSound, interface_of}
 use Rattle.open_records.specs.OpenRecords.{IsSound as RecordsAreSound, RecordTable}
 use Rattle.fw_types.specs.declared.limits.TheConstants.{MOST_HANDLES, MOST_LEVELS, MOST_RECORDS, MOST_THUNKS}
 use Rattle.guest_memory.specs.declared.address_map.TheConstants.{BLOCK_END, BUS_BINDING, CHILD_LISTS, FIRMWARE_IMAGE, FIRST_BLOCK, FIRST_IMAGE, IMAGE_END, LIST_ROOM, STACKS, STACK_SIZE, SYSTEM_TABLE, TABLES_END}

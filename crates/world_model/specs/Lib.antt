@@ -29,3 +29,4 @@ pub mod Levels
 pub mod NestedLaws
 pub mod Undo
 pub mod UndoLaws
+pub mod BlockBytes

@@ -34,7 +34,7 @@ use Rattle.world_model.specs.Interfaces.{install_answer, interface_added, interf
 use Rattle.world_model.specs.Marks.{stacks}
 use Rattle.world_model.specs.Stacks.{has_stack, stack_popped, stack_pushed}
 use Rattle.world_model.specs.Thunks.{enters, thunk_made}
-use Rattle.world_model.specs.Undo.{AreLevelsOf, had_stack, later_levels, taken_back, undone, without_stacks}
+use Rattle.world_model.specs.Undo.{had_stack, later_levels, taken_back, undone, without_stacks}
 use Rattle.world_model.specs.Kept.{IsKept}
 
 -- ---- a change that was noted
@@ -73,17 +73,21 @@ Fits MakeThunk db = Unit {0}
 Fits (NoteChild count) db = Unit {0}
 Fits (SetBusList function before) db = Unit {0}
 
--- a change from one soft part to another was noted: taken back, it leaves the one before; it has nothing to do with stacks
+-- a change from one soft part to another was noted: taken back, it leaves the one before; it has nothing to do with stacks;
+-- the address of the next block does not fall
 pub record IsNoted (change : Change) (before after : Soft) : Type 0 where
   pub back : taken_back change after ≡ before
   pub stacks : stacks after ≡ stacks before
+  pub rises : before.next_block ≤ after.next_block
   pub fits : Fits change after.database
   pub beside : list_all (nat_le FIRST_IMAGE) (addresses_in change) ≡ true
 
--- a change can be taken back: what holds of every soft part holds of the one before, which has the same stacks
+-- a change can be taken back: what holds of every soft part holds of the one before, which has the same stacks; the address
+-- of the next block does not rise
 pub record CanTakeBack (change : Change) (soft : Soft) : Type 0 where
   pub kept : IsKept (taken_back change soft)
   pub stacks : stacks (taken_back change soft) ≡ stacks soft
+  pub rises : (taken_back change soft).next_block ≤ soft.next_block
   pub fits : Fits change soft.database
   pub beside : list_all (nat_le FIRST_IMAGE) (addresses_in change) ≡ true
 

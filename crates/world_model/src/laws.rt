@@ -18,6 +18,7 @@ ghost use Rattle.world_model.specs.Levels.{CallHasMarks, DeeperHasMarks, DeeperI
 ghost use Rattle.world_model.specs.Marks.{CommitSpendsMark, RollbackPutsBack};
 ghost use Rattle.world_model.specs.NestedLaws.{AllLeavingInView, ChildLeavingInView, EnteringInView, InstallingInView, LeavingInView, NewHandleInView, UninstallingInView, WeakDroppingInView};
 ghost use Rattle.world_model.specs.StackLaws.{AddingKeepsStacks, AllottingKeepsStacks, DroppingKeepsStacks, FreeingKeepsStacks, PoppingUndoesPush, PoppingTakesStack, PushedStackIsThere, PushingAddsStack, PuttingKeepsStacks, StackOfLevel, SweepingKeepsStacks, WritingKeepsStacks};
+ghost use Rattle.world_model.specs.BlockBytes.{EmptiedBesideStacks, EmptyFreeIsNoted, EmptyingKeeps, UndoneWithoutBytes};
 ghost use Rattle.world_model.specs.UndoLaws.{AddImageIsNoted, AllotIsNoted, BusListIsNoted, ChildIsNoted, DropImageIsNoted, EnterIsNoted, FreeIsNoted, InstallIsNoted, LeaveIsNoted, LeftStackIsThere, NoneIsLeftOut, NotedBesideStacks, PoppedIsLeftOut, PushedIsLeftOut, PutIsNoted, TakenBesideStacks, ThunkIsNoted, TplIsNoted, UndoingLeavesStacks, UninstallIsNoted, WriteIsNoted};
 ghost use Rattle.world_model.specs.Keeping.{AddingKeeps, AllLeavingKeeps, AllottingKeeps, BlockFits, ChildLeavingKeeps, DroppingKeeps, EnteringKeeps, FreeingKeeps, ImageFits, InstallingKeeps, LeavingKeeps, ListFits, MakingKeeps, OpeningIsKept, PoppingKeeps, PushingKeeps, PuttingKeeps, StackFits, ImageBlockFits, SweepingKeeps, TplKeeps, UninstallingKeeps, WeakDroppingKeeps, WritingKeeps, BusListKeeps, NotingKeeps};
 
@@ -234,6 +235,15 @@ pub fn marks_keep()
     ensures none { NoneIsLeftOut }
     ensures left { LeftStackIsThere }
     ensures undone { UndoingLeavesStacks }
+{}
+
+/// The bytes of a large block of the pool are no matter to a mark that is older than the block: a free
+/// that is noted without them is taken back as one that is noted with them.
+pub fn new_blocks_need_no_bytes()
+    ensures keeps { EmptyingKeeps }
+    ensures free { EmptyFreeIsNoted }
+    ensures stacks { EmptiedBesideStacks }
+    ensures undone { UndoneWithoutBytes }
 {}
 
 /// The limits that no test reaches have these values.

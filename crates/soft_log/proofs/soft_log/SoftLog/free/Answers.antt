@@ -1,23 +1,21 @@
-use Rattle.std.proofs.Common.{ap, sym, ◌∙◌}
-use Rattle.world_model.specs.declared.change.Change.{Change}
-use Rattle.world_model.specs.declared.change.Change.TheVariants.{Free}
-use Rattle.world_model.specs.UndoLaws.{IsNoted}
-use Rattle.world_model.proofs.UndoNoted.{free_is_noted}
-use Rattle.soft_log.specs.Keeping.{MarkedSoft}
-use Rattle.soft_log.proofs.Noting.{are_noted, kept_noted}
+use Rattle.std.proofs.Common.{ap, sym, subst, ◌∙◌}
+use Rattle.world_model.specs.Blocks.{block_freed}
+use Rattle.world_model.specs.Kept.{IsKept}
+use Rattle.soft_log.specs.Keeping.{MarkedSoft, segment_noted}
+use Rattle.soft_log.proofs.NewBlocks.{FreeKeeps, freed}
 use Rattle.soft_log.proofs.soft_log.SoftLog.free.Goals as goal
 
-pub invariant_of-self-2 : goal.invariant_of-self-2
-invariant_of-self-2 c =
+-- what the marks keep stays
+keeps : (c : goal.After-note) → FreeKeeps c.self.inside.log.marks (segment_noted c.self.inside.log.marks c.in_ok-freed.freed) c.self.inside.soft (block_freed c.args.at c.self.inside.soft)
+keeps c =
     let inside = c.self.inside in
-    let change : Change = Free c.in_ok-segment.segment in
-    let is : IsNoted change inside.soft c.free.new.self = rw c.in_ok-segment.ensures.ok (free_is_noted inside.soft c.args.at c.args.kind c.in_ok-segment.segment c.is_kept.ensures c.requires (sym c.in_ok-segment.ensures.answer) c.in_ok-segment.ensures.segment) in
-    rw (c.note.ensures, c.reserve.ensures.marks) (are_noted inside.log.marks change inside.soft c.free.new.self c.is_kept.ensures c.is_kept-2.ensures is c.self.invariant)
+    let still : IsKept (block_freed c.args.at inside.soft) = subst IsKept c.in_ok-freed.ensures.ok c.is_kept-2.ensures in
+    freed inside.log.marks inside.soft c.args.at c.args.kind c.in_ok-freed.freed c.is_kept.ensures still c.self.invariant c.requires (sym c.in_ok-freed.ensures.answer) c.in_ok-freed.ensures.segment
+
+pub invariant_of-self-2 : goal.invariant_of-self-2
+invariant_of-self-2 c = rw (c.note.ensures, c.noted_segment-segment.ensures, c.reserve.ensures.marks, c.in_ok-freed.ensures.ok) (keeps c).0
 
 pub returns-clause-marks : goal.returns-clause-marks
 returns-clause-marks c =
-    let inside = c.self.inside in
-    let change : Change = Free c.in_ok-segment.segment in
-    let is : IsNoted change inside.soft c.free.new.self = rw c.in_ok-segment.ensures.ok (free_is_noted inside.soft c.args.at c.args.kind c.in_ok-segment.segment c.is_kept.ensures c.requires (sym c.in_ok-segment.ensures.answer) c.in_ok-segment.ensures.segment) in
-    rw (c.note.ensures, c.reserve.ensures.marks) (kept_noted inside.log.marks change inside.soft c.free.new.self c.is_kept.ensures c.is_kept-2.ensures is)
+    rw (c.note.ensures, c.noted_segment-segment.ensures, c.reserve.ensures.marks, c.in_ok-freed.ensures.ok) (keeps c).1
     ∙ ap (λ (v : MarkedSoft). v.marks) c.self.view_is

@@ -2,9 +2,9 @@ use Rattle.std.proofs.Common.{◌≡◌, ◌<◌, ℕ, List, [], ◌∷◌, leng
 use Rattle.fw_types.specs.declared.limits.TheConstants.{MOST_MARKS}
 use Rattle.undo_log.specs.Log.{LogView, marked}
 use Rattle.world_model.specs.declared.change.Change.{Change}
-use Rattle.world_model.specs.declared.stack_levels.StackLevels.{StackLevels}
+use Rattle.soft_log.specs.declared.moment.Moment.{Moment}
 use Rattle.world_model.specs.World.{Soft}
-use Rattle.soft_log.specs.Keeping.{MarkedSoft, kept_from}
+use Rattle.soft_log.specs.Keeping.{IsMomentOf, MarkedSoft, kept_from}
 use Rattle.soft_log.proofs.TakingBack.{are_marked, kept_marked, length-kept_from}
 use Rattle.soft_log.proofs.soft_log.SoftLog.mark.Goals as goal
 
@@ -16,8 +16,10 @@ mark-requires c =
 pub invariant_of-self : goal.invariant_of-self
 invariant_of-self c =
     let inside = c.self.inside in
-    let marks_are : c.mark.new.self.marks ≡ marked c.levels-levels.result inside.log.marks = ap (λ (log : LogView Change StackLevels). log.marks) c.mark.ensures.now in
-    rw marks_are (are_marked inside.log.marks c.levels-levels.result inside.soft c.is_kept.ensures c.levels-levels.ensures c.self.invariant)
+    let moment : Moment = record { levels = c.levels-levels.result; next_block = c.next_block-next_block.result } in
+    let is : IsMomentOf moment inside.soft = record { levels = c.levels-levels.ensures; next_block = c.next_block-next_block.ensures } in
+    let marks_are : c.mark.new.self.marks ≡ marked moment inside.log.marks = ap (λ (log : LogView Change Moment). log.marks) c.mark.ensures.now in
+    rw marks_are (are_marked inside.log.marks moment inside.soft c.is_kept.ensures is c.self.invariant)
 
 pub returns-clause-mark : goal.returns-clause-mark
 returns-clause-mark c = c.mark.ensures.mark ∙ sym (length-kept_from [] c.mark.new.self.marks c.self.inside.soft)
@@ -25,7 +27,9 @@ returns-clause-mark c = c.mark.ensures.mark ∙ sym (length-kept_from [] c.mark.
 pub returns-clause-now : goal.returns-clause-now
 returns-clause-now c =
     let inside = c.self.inside in
-    let marks_are : c.mark.new.self.marks ≡ marked c.levels-levels.result inside.log.marks = ap (λ (log : LogView Change StackLevels). log.marks) c.mark.ensures.now in
+    let moment : Moment = record { levels = c.levels-levels.result; next_block = c.next_block-next_block.result } in
+    let is : IsMomentOf moment inside.soft = record { levels = c.levels-levels.ensures; next_block = c.next_block-next_block.ensures } in
+    let marks_are : c.mark.new.self.marks ≡ marked moment inside.log.marks = ap (λ (log : LogView Change Moment). log.marks) c.mark.ensures.now in
     let kept : kept_from [] c.mark.new.self.marks inside.soft ≡ inside.soft ∷ kept_from [] inside.log.marks inside.soft =
-    rw marks_are (kept_marked inside.log.marks c.levels-levels.result inside.soft c.is_kept.ensures c.levels-levels.ensures) in
+    rw marks_are (kept_marked inside.log.marks moment inside.soft c.is_kept.ensures is) in
     ap (λ (marks : List Soft). record { now = inside.soft; marks = marks }) kept ∙ ap (λ (v : MarkedSoft). record v { marks = v.now ∷ v.marks }) c.self.view_is

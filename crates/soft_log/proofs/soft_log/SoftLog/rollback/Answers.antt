@@ -1,7 +1,7 @@
 use Rattle.std.proofs.Common.{◌≡◌, List, [], length, Some, sym, ap, subst, ◌∙◌}
 use Rattle.undo_log.specs.Log.{Section, last_change, without_last}
 use Rattle.world_model.specs.declared.change.Change.{Change}
-use Rattle.world_model.specs.declared.stack_levels.StackLevels.{StackLevels}
+use Rattle.soft_log.specs.declared.moment.Moment.{Moment}
 use Rattle.world_model.specs.World.{Soft}
 use Rattle.world_model.specs.Marks.{older_marks, stacks}
 use Rattle.world_model.specs.UndoLaws.{CanTakeBack}
@@ -52,7 +52,7 @@ back-preserved c =
 
 pub invariant_of-self : goal.invariant_of-self
 unfolding AreKept
-invariant_of-self c = subst (λ (marks : List (Section Change StackLevels)). AreKept [] marks c.take_back.new.soft) (sym c.in_err-take_back.ensures.none) tt
+invariant_of-self c = subst (λ (marks : List (Section Change Moment)). AreKept [] marks c.take_back.new.soft) (sym c.in_err-take_back.ensures.none) tt
 
 pub commit-requires : goal.commit-requires
 commit-requires c =

@@ -1,7 +1,7 @@
 use Rattle.std.proofs.Common.{List, [], ap, sym, subst, ◌∙◌}
 use Rattle.undo_log.specs.Log.{Section}
 use Rattle.world_model.specs.declared.change.Change.{Change}
-use Rattle.world_model.specs.declared.stack_levels.StackLevels.{StackLevels}
+use Rattle.soft_log.specs.declared.moment.Moment.{Moment}
 use Rattle.soft_log.specs.Keeping.{AreKept, MarkedSoft}
 use Rattle.soft_log.proofs.Noting.{are_noted, kept_noted}
 use Rattle.soft_log.proofs.soft_log.SoftLog.uninstall.Goals as goal
@@ -13,7 +13,7 @@ invariant_of-self-in-Ok c =
 
 pub invariant_of-self-in-Err-OutOfMemory : goal.invariant_of-self-in-Err-OutOfMemory
 unfolding AreKept
-invariant_of-self-in-Err-OutOfMemory c = subst (λ (marks : List (Section Change StackLevels)). AreKept [] marks c.uninstall.new.self) (sym c.clear.ensures) tt
+invariant_of-self-in-Err-OutOfMemory c = subst (λ (marks : List (Section Change Moment)). AreKept [] marks c.uninstall.new.self) (sym c.clear.ensures) tt
 
 pub returns-in-Ok-clause-marks : goal.returns-in-Ok-clause-marks
 returns-in-Ok-clause-marks c =
