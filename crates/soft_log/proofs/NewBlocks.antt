@@ -91,7 +91,7 @@ emptied_from later (mark ∷ marks) soft at kept are le =
       ap (λ (x : Soft). x ∷ kept_from changes marks (block_emptied at soft)) one.1 ∙ ap (λ (xs : List Soft). kept_by levels changes soft ∷ xs) others.1,
     )
 
--- a block that lies where the next block lay at the newest mark, or behind
+-- a block at the address of the next block at the newest mark, or above it
 all_emptied : (newest : Section Change Moment) (older : List (Section Change Moment)) (soft : Soft) (at : ℕ) → IsKept soft → AreKept [] (newest ∷ older) soft → newest.carried.next_block ≤ at
     → AreKept [] (newest ∷ older) (block_emptied at soft) × (kept_from [] (newest ∷ older) (block_emptied at soft) ≡ kept_from [] (newest ∷ older) soft)
 unfolding AreKept kept_from

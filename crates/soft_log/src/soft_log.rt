@@ -716,9 +716,9 @@ fn bytes_before(alloc: Global, soft: &SoftPart, at: u64, n: u64) -> Result<Rows<
     Ok(Rows::of(Vec::from_slice(alloc, soft.bytes(at, n))?))
 }
 
-/// What is noted of a block that was freed: what was mapped there, but no bytes of a large block of the
-/// pool that was made since the newest mark. To take its making back removes it, so that no mark has to
-/// do with its bytes, and a driver that makes and frees blocks in one call does not fill the log.
+/// What is noted of a block that was freed: what was mapped there, without its bytes if it is a large block
+/// of the pool that was made since the newest mark. An undo takes its making back too, so nothing reads the
+/// bytes, and a driver that makes and frees blocks in one call does not fill the log.
 fn noted_segment(alloc: Global, log: &Log<Change, Moment>, freed: Segment) -> Segment
     ensures { result ≡ segment_noted log.now.marks freed }
 {
@@ -769,3 +769,6 @@ fn take_back(
         }
     }
 }
+
+#[cfg(test)]
+mod tests;

@@ -1,5 +1,3 @@
 pub mod Keeps
 pub mod Noted
-pub mod Order
-pub mod Placing
 pub mod RootHandles

@@ -1,9 +1,8 @@
 -- Changes of the records, and those that take interfaces with their records, as the calls on the fields make them.
-use Rattle.std.proofs.Common.{◌≡◌, ℕ, Bool, true, false, not, List, filter, Option, Some, refl, sym, ap, ◌∙◌}
-use Rattle.std.specs.Prelude.{Result, Ok, Err, OnOk}
-use Rattle.std.specs.Result.{is_err}
+use Rattle.std.proofs.Common.{◌≡◌, ℕ, Bool, not, List, filter, Option, Some, ap, ◌∙◌}
+use Rattle.std.specs.Prelude.{Ok}
+use Rattle.std.proofs.Math.Bool.{not-not}
 use Rattle.std.specs.List.{position_or_len}
-use Rattle.fw_types.specs.declared.memory.OutOfMemory.{OutOfMemory}
 use Rattle.fw_types.specs.Guid.{known_guid}
 use Rattle.fw_types.specs.declared.guid.Known.TheVariants.{LoadedImage as LoadedImageProtocol}
 use Rattle.guest_memory.specs.declared.segment.Segment.{Segment}
@@ -14,7 +13,7 @@ use Rattle.handle_db.specs.Removing.{remove_answer, removed}
 use Rattle.handle_db.proofs.RemovalBack.{undone as removal_undone}
 use Rattle.open_records.specs.declared.undoing.Choice.TheVariants.{WithInterface}
 use Rattle.open_records.specs.OpenRecords.{RecordTable}
-use Rattle.open_records.specs.PuttingBack.{Gone, gone_by, picks, without_passing}
+use Rattle.open_records.specs.PuttingBack.{Gone, gone_by, picks}
 use Rattle.world_model.specs.declared.bus_child.BusChild.{BusChild}
 use Rattle.world_model.specs.declared.change.Change.TheVariants.{Uninstall, DropImage}
 use Rattle.world_model.specs.declared.image.LoadedImage.{LoadedImage}
@@ -26,21 +25,11 @@ use Rattle.world_model.specs.Records.{records_removed}
 use Rattle.world_model.specs.Thunks.{enters, without_thunks}
 use Rattle.world_model.specs.UndoLaws.{IsNoted, child_gone, gone_with, is_of_handle}
 use Rattle.world_model.specs.World.{Soft}
-use Rattle.world_model.proofs.UndoRecords.{image_gone, uninstall_is_noted, went_with}
-
-pub not_not : (b : Bool) → not (not b) ≡ b
-not_not true = refl
-not_not false = refl
-
--- the records that go with an interface, when they are listed
-pub went : {T : Type 0} (result : Result T OutOfMemory) (new table : RecordTable) (handle : ℕ) (guid : List ℕ) (db : Database) (live : Bool) → is_err result ≡ false → is_live handle db ≡ live
-    → OnOk result (new ≡ without_passing (picks (WithInterface handle guid (not live))) table) → new ≡ records_removed handle guid db table
-went (Ok done) new table handle guid db live not_err is ok = ok ∙ sym (went_with handle guid (not live) db table (is ∙ sym (not_not live)))
-went (Err error) new table handle guid db live not_err is ok = absurd cc
+use Rattle.world_model.proofs.UndoRecords.{image_gone, uninstall_is_noted}
 
 gone_is : (handle : ℕ) (guid : List ℕ) (r : Removed) (db : Database) (table : RecordTable) (gone : List Gone) → is_live handle db ≡ not r.gone
     → gone ≡ gone_by (picks (WithInterface handle guid (not (is_live handle db)))) table.entries → gone ≡ gone_with handle guid r table
-gone_is handle guid r db table gone live is = is ∙ ap (λ (flag : Bool). gone_by (picks (WithInterface handle guid flag)) table.entries) (ap not live ∙ not_not r.gone)
+gone_is handle guid r db table gone live is = is ∙ ap (λ (flag : Bool). gone_by (picks (WithInterface handle guid flag)) table.entries) (ap not live ∙ not-not r.gone)
 
 -- an interface that was uninstalled
 pub noted_uninstall : (soft : Soft) (handle : ℕ) (guid : List ℕ) (r : Removed) (gone : List Gone) (child : Option (ℕ × BusChild)) (db : Database) (records : RecordTable) (children : List BusChild) → IsKept soft

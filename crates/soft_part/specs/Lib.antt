@@ -1,4 +1,2 @@
 pub mod Answers
-pub mod Blocks
-pub mod Places
 pub mod Soft

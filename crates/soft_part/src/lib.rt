@@ -4,19 +4,11 @@
 //!
 //! A contract sees a `SoftPart` as the record `Soft` of `world_model`. Each call that changes it
 //! says which single change of `world_model` it is. What holds of every soft part is the type's
-//! invariant.
+//! invariant. `soft_pieces` has what needs only some of the pieces.
 #![tactic(auto)]
 
-mod bus_children;
-mod database;
-mod image_block;
-mod mapping;
-mod opens;
 mod plain_part;
 mod roots;
 mod soft_part;
-mod stack;
-mod tables;
-mod thunks;
 
 pub use soft_part::SoftPart;

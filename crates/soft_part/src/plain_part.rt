@@ -3,9 +3,9 @@
 ghost use Rattle.std.specs.Prelude.{IfOk};
 ghost use Rattle.soft_part.specs.Soft.{IsOpening};
 
-use crate::bus_children::{BusList, first_lists};
 use fw_types::OutOfMemory;
 use guest_memory::address_map::{FIRST_BLOCK, FIRST_IMAGE};
+use soft_pieces::bus_children::{BusList, first_lists};
 use std::alloc::Global;
 use world_model::{BusChild, LoadedImage, TPL_APPLICATION, Thunk};
 

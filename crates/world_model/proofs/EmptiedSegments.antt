@@ -129,7 +129,7 @@ bases-emptied of at (s ∷ rest) = by_kind (is_of of s) refl (bases-emptied of a
         let also : is_of of (emptied_at at s) ≡ false = ap (λ (k : SegKind). nat_eq (kind_number k) (kind_number of)) (kind-emptied at s) ∙ is in
         rw (also, is) later
 
--- where no block lies at an address or behind it, none is the large block there
+-- if no block lies at an address or above it, none is the large block there
 pub none_large : (image block at : ℕ) (segments : List Segment) → block ≤ at → list_all (is_placed image block) segments ≡ true → list_any (is_large_block at) segments ≡ false
 none_large image block at segments le placed = list_any-none (is_placed image block) (is_large_block at) segments (λ s right. by_kind s.kind s.base (length s.bytes) right) placed
   where
@@ -178,7 +178,7 @@ mapped-emptied at new (s ∷ rest) same = by_head (nat_lt s.base new.base) refl 
         let also : nat_lt (emptied_at at s).base new.base ≡ false = ap (λ (b : ℕ). nat_lt b new.base) (base-emptied at s) ∙ is in
         rw also (ap (λ (x : Segment). x ∷ (emptied_at at s ∷ all_emptied at rest)) (sym same))
 
--- what lies behind a segment at an address is not the large block there
+-- what lies above a segment at an address is not the large block there
 none_behind_large : (at : ℕ) (s : Segment) (rest : List Segment) → lie_from (end_of s) rest ≡ true → nat_eq s.base at ≡ true → list_any (is_large_block at) rest ≡ false
 none_behind_large at s rest behind is =
     list_any-none (λ (o : Segment). nat_le (end_of s) o.base) (is_large_block at) rest (λ o high. not_large at o (grind (arith, nat_tests)))
