@@ -4,7 +4,7 @@ ghost use Rattle.std.specs.Prelude.{◌≡◌, IfOk};
 ghost use Rattle.driver_model.specs.Connect.{address_in, child_connection, driver_call, status_of, unmarked};
 ghost use Rattle.driver_model.specs.DriverOrder.{order, platform_list};
 
-use bind_plan::{drivers_without, order};
+use bind_plan::{StartedDrivers, order_of_unmarked};
 use driver_model::{BindingBlock, Call, CallKind, Connection, Settings};
 use fw_types::{Handle, OutOfMemory, Status};
 use fw_world::World;
@@ -32,14 +32,13 @@ pub fn drivers_to_ask(
     settings: &Settings,
     controller: Handle,
     context: &[u64],
-    marked: &[u64],
+    marked: &StartedDrivers,
 ) -> Result<Vec<BindingBlock>, OutOfMemory>
     ensures { IfOk result (λ blocks. blocks.items ≡ unmarked marked.now
         (order controller context.now (platform_list settings.now controller) world.now.now.soft)) }
 {
     let platform = platform_list(settings, controller);
-    let blocks = order(world, controller, context, platform)?;
-    drivers_without(world.alloc(), blocks.as_slice(), marked)
+    order_of_unmarked(world, controller, context, platform, marked)
 }
 
 /// The field of a binding that is called.

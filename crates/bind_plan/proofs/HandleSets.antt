@@ -1,10 +1,11 @@
 -- Sets of handles, and lists of drivers that are looked for in them.
-use Rattle.std.proofs.Common.{◌≡◌, ℕ, ◌+◌, ◌<◌, Bool, true, false, not, ◌||◌, cond, nat_eq, List, [], ◌∷◌, ◌++◌, length, take, get_or, map, refl, sym, ap, ◌∙◌, arith}
+use Rattle.std.proofs.Common.{◌≡◌, ℕ, ◌+◌, ◌<◌, Bool, true, false, not, ◌||◌, cond, nat_eq, List, [], ◌∷◌, ◌++◌, length, take, get_or, map, reverse, refl, sym, ap, ◌∙◌, arith}
 use Rattle.std.specs.Prelude.{filter, if◌then◌else◌}
 use Rattle.std.specs.List.{list_any}
 use Rattle.std.specs.Ordering.{is_eq, nat_cmp}
 use Rattle.std.specs.BTreeSet.{BTreeSet, Updates, contains}
 use Rattle.std.proofs.lemmas.Bool.Decides.{nat_tests}
+use Rattle.std.proofs.lemmas.List.{reverse-append}
 use Rattle.std.proofs.lemmas.List.Folds.{list_any-append, list_any_more}
 use Rattle.driver_model.specs.Connect.{is_marked, unmarked}
 use Rattle.driver_model.specs.OrderLaws.{is_among, is_handle}
@@ -38,6 +39,24 @@ set_more old new numbers i updates lt of q =
     ∙ ap (λ (there : Bool). there || nat_eq (get_or numbers i 0) q) (of q)
     ∙ ap (λ (here : Bool). list_any (nat_eq q) (take i numbers) || here) (nat_eq-sym (get_or numbers i 0) q)
     ∙ sym (list_any_more (nat_eq q) numbers i 0 lt)
+
+-- a number goes into the set of others, of which it becomes the first
+pub set_with_first : (old new : BTreeSet ℕ) (numbers : List ℕ) (number : ℕ) → Updates nat_cmp old new number true → IsSetOf numbers old → IsSetOf (number ∷ numbers) new
+set_with_first old new numbers number updates of q =
+    has_more old new number updates q
+    ∙ ap (λ (there : Bool). there || nat_eq number q) (of q)
+    ∙ ap (λ (here : Bool). list_any (nat_eq q) numbers || here) (nat_eq-sym number q)
+    ∙ or_swap (list_any (nat_eq q) numbers) (nat_eq q number)
+  where
+    or_swap : (here there : Bool) → (here || there) ≡ (there || here)
+    or_swap true true = refl
+    or_swap true false = refl
+    or_swap false true = refl
+    or_swap false false = refl
+
+-- the last one put to a list is the first from its end
+pub reverse_with_last : (numbers : List ℕ) (number : ℕ) → reverse (numbers ++ number ∷ []) ≡ number ∷ reverse numbers
+reverse_with_last numbers number = reverse-append numbers (number ∷ [])
 
 -- a driver that is not in the set of the others comes after them, and its handle into the set
 module _ (old new : BTreeSet ℕ) (block : BindingBlock) (updates : Updates nat_cmp old new block.handle true) (drivers : List BindingBlock) (of : AreHandlesOf drivers old) where

@@ -1,4 +1,5 @@
 mod ChildRecords
 mod HandleSets
+pub mod LeftOut
 pub mod NullHandle
 pub mod SortedVersions

@@ -1,1 +1,2 @@
 pub mod HandleSet
+pub mod Unmarked

@@ -1,7 +1,10 @@
 //! Driver bindings, as their bytes in guest memory say.
 ghost use Rattle.std.specs.Prelude.{◌≡◌, length, IfOk};
 ghost use Rattle.driver_model.specs.Bindings.{all_bindings, binding as binding_value, bindings_of, block_at as block_value, block_of};
+ghost use Rattle.driver_model.specs.Connect.{unmarked};
+ghost use Rattle.bind_plan.specs.Unmarked.{unmarked_binding, unmarked_bindings};
 
+use crate::started_drivers::StartedDrivers;
 use byteorder::{ByteOrder, LittleEndian};
 use driver_model::{BINDING_SIZE, BindingBlock};
 use fw_types::{Guid, Handle, Known, OutOfMemory};
@@ -48,34 +51,70 @@ fn block_of(handle: Handle, at: u64, bytes: &[u8]) -> BindingBlock
     }
 }
 
-/// The bindings of handles, in the order of the handles.
-pub fn bindings_of(world: &World, handles: &[u64]) -> Result<Vec<BindingBlock>, OutOfMemory>
-    ensures { IfOk result (λ blocks. blocks.items ≡ bindings_of handles.now world.now.now.soft) }
+/// The binding of a handle, if that is not marked. The binding of a marked one is not read.
+fn unmarked_binding(world: &World, handle: u64, marked: &StartedDrivers) -> Option<BindingBlock>
+    ensures { result ≡ unmarked_binding marked.now handle world.now.now.soft }
 {
-    let blocks = handles
+    if marked.has(handle) {
+        return None;
+    }
+    binding(world, handle)
+}
+
+/// The bindings of handles that are not marked, in the order of the handles.
+pub fn bindings_of(
+    world: &World,
+    handles: &[u64],
+    marked: &StartedDrivers,
+) -> Result<Vec<BindingBlock>, OutOfMemory>
+    ensures { IfOk result (λ blocks.
+        blocks.items ≡ unmarked marked.now (bindings_of handles.now world.now.now.soft)) }
+{
+    bindings_of_numbers(world, handles, marked)
+}
+
+/// The bindings of handles that are not marked, given by their numbers.
+fn bindings_of_numbers(
+    world: &World,
+    numbers: &[u64],
+    marked: &StartedDrivers,
+) -> Result<Vec<BindingBlock>, OutOfMemory>
+    ensures { IfOk result (λ blocks.
+        blocks.items ≡ unmarked_bindings marked.now numbers.now world.now.now.soft) }
+{
+    let blocks = numbers
         .iter()
-        .filter_map(|handle| binding(world, *handle))
+        .filter_map(|handle| unmarked_binding(world, *handle, marked))
         .collect(world.alloc())?;
     Ok(blocks)
 }
 
-/// All bindings, by rising handle.
-pub fn all_bindings(world: &World) -> Result<Vec<BindingBlock>, OutOfMemory>
-    ensures { IfOk result (λ blocks. blocks.items ≡ all_bindings world.now.now.soft) }
+/// All bindings of handles that are not marked, by rising handle.
+pub fn all_bindings(
+    world: &World,
+    marked: &StartedDrivers,
+) -> Result<Vec<BindingBlock>, OutOfMemory>
+    ensures { IfOk result (λ blocks.
+        blocks.items ≡ unmarked marked.now (all_bindings world.now.now.soft)) }
 {
     let handles = world
         .db()
         .handles_with(Some(Guid::known(Known::DriverBinding)))?;
-    bindings_of_handles(world, handles.as_slice())
+    bindings_of_handles(world, handles.as_slice(), marked)
 }
 
-/// The bindings of handles that are live, in the order of the handles.
-fn bindings_of_handles(world: &World, handles: &[Handle]) -> Result<Vec<BindingBlock>, OutOfMemory>
-    ensures { IfOk result (λ blocks. blocks.items ≡ bindings_of handles.now world.now.now.soft) }
+/// The bindings of live handles that are not marked.
+fn bindings_of_handles(
+    world: &World,
+    handles: &[Handle],
+    marked: &StartedDrivers,
+) -> Result<Vec<BindingBlock>, OutOfMemory>
+    ensures { IfOk result (λ blocks.
+        blocks.items ≡ unmarked_bindings marked.now handles.now world.now.now.soft) }
 {
     let blocks = handles
         .iter()
-        .filter_map(|handle| binding(world, handle.get()))
+        .filter_map(|handle| unmarked_binding(world, handle.get(), marked))
         .collect(world.alloc())?;
     Ok(blocks)
 }

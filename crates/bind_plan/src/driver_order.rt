@@ -1,6 +1,7 @@
 //! The order in which drivers are asked for a controller.
-ghost use Rattle.std.specs.Prelude.{◌≡◌, ◌++◌, not, nat_eq, true, filter, flat_map, map, IfOk, OnOk};
+ghost use Rattle.std.specs.Prelude.{◌≡◌, ◌++◌, ◌∷◌, [], not, nat_eq, true, filter, flat_map, map, IfOk, OnOk};
 ghost use Rattle.driver_model.specs.Bindings.{all_bindings as all_bindings_value};
+ghost use Rattle.driver_model.specs.Connect.{unmarked};
 ghost use Rattle.driver_model.specs.DriverOrder.{bus_group, by_version, drivers_by, first_places as first_places_value, order as order_value};
 ghost use Rattle.driver_model.specs.OrderLaws.{chosen_first as chosen_first_value, is_among as is_among_value, is_by_handle};
 ghost use Rattle.driver_model.specs.declared.binding.BindingBlock.{BindingBlock as BlockValue};
@@ -8,6 +9,7 @@ ghost use Rattle.driver_model.specs.declared.binding.BindingBlock.{BindingBlock 
 use crate::bindings::{all_bindings, binding, bindings_of};
 use crate::handle_set::{add_unseen, drivers_without};
 use crate::numbers::numbers_of;
+use crate::started_drivers::StartedDrivers;
 use driver_model::BindingBlock;
 use driver_model::order_laws::{lists_of_drivers, order_of_drivers};
 use fw_types::{Handle, OutOfMemory};
@@ -30,6 +32,7 @@ use std::collections::BTreeSet;
 /// # Errors
 ///
 /// `OutOfMemory` if there is no memory for the list.
+#[tactic(auto, using(crate::proofs::LeftOut::none_marked))]
 pub fn order(
     world: &World,
     controller: Handle,
@@ -39,87 +42,128 @@ pub fn order(
     ensures { IfOk result (λ blocks.
         blocks.items ≡ order_value controller context.now platform.now world.now.now.soft) }
 {
+    let marked = StartedDrivers::new(world.alloc());
+    order_of_unmarked(world, controller, context, platform, &marked)
+}
+
+/// The drivers of the order that are not marked. The binding of a marked handle is read only if the platform
+/// or the bus specific list names it.
+///
+/// # Errors
+///
+/// `OutOfMemory` if there is no memory for the list.
+#[tactic(auto, using(crate::proofs::LeftOut::rising_left))]
+pub fn order_of_unmarked(
+    world: &World,
+    controller: Handle,
+    context: &[u64],
+    platform: &[u64],
+    marked: &StartedDrivers,
+) -> Result<Vec<BindingBlock>, OutOfMemory>
+    ensures { IfOk result (λ blocks. blocks.items ≡ unmarked marked.now
+        (order_value controller context.now platform.now world.now.now.soft)) }
+{
     world.is_kept();
     order_of_drivers();
     lists_of_drivers();
-    let mut all = all_bindings(world)?;
-    let mut blocks = chosen_first(world, controller, context, platform, all.as_slice())?;
+    let mut all = all_bindings(world, marked)?;
+    let chosen = chosen_first(world, controller, context, platform, marked, all.as_slice())?;
     sort_by_version(&mut all)?;
-    add_others(world.alloc(), &mut blocks, all.as_slice())?;
-    Ok(blocks)
+    with_others(world.alloc(), chosen, all)
 }
 
-/// The drivers before those that go by Version, each once.
+/// The unmarked drivers before those that go by Version, each once.
+#[tactic(auto, using(crate::proofs::LeftOut::chosen_left))]
 fn chosen_first(
     world: &World,
     controller: Handle,
     context: &[u64],
     platform: &[u64],
+    marked: &StartedDrivers,
     all: &[BindingBlock],
 ) -> Result<Vec<BindingBlock>, OutOfMemory>
-    requires { all.now ≡ all_bindings_value world.now.now.soft }
+    requires { all.now ≡ unmarked marked.now (all_bindings_value world.now.now.soft) }
     ensures { IfOk result (λ blocks.
-        blocks.items ≡ chosen_first_value controller context.now platform.now world.now.now.soft) }
+        blocks.items ≡ unmarked marked.now
+        (chosen_first_value controller context.now platform.now world.now.now.soft)) }
 {
-    let mut groups = bindings_of(world, context)?;
-    let platform_group = drivers_of(world, platform, all)?;
+    let mut groups = bindings_of(world, context, marked)?;
+    let platform_group = drivers_of(world, platform, marked, all)?;
     groups.extend_from_slice(platform_group.as_slice())?;
-    let bus_group = bus_drivers_of(world, controller, all)?;
+    let bus_group = bus_drivers_of(world, controller, marked, all)?;
     groups.extend_from_slice(bus_group.as_slice())?;
     first_places(world.alloc(), groups.as_slice())
 }
 
-/// The drivers of the bus specific driver override for a controller: none if it is no child of the bus.
+/// The unmarked drivers of the bus specific driver override for a controller: none if it is no child of the bus.
 fn bus_drivers_of(
     world: &World,
     controller: Handle,
+    marked: &StartedDrivers,
     all: &[BindingBlock],
 ) -> Result<Vec<BindingBlock>, OutOfMemory>
-    requires { all.now ≡ all_bindings_value world.now.now.soft }
-    ensures { IfOk result (λ blocks. blocks.items ≡ bus_group controller world.now.now.soft) }
+    requires { all.now ≡ unmarked marked.now (all_bindings_value world.now.now.soft) }
+    ensures { IfOk result (λ blocks.
+        blocks.items ≡ unmarked marked.now (bus_group controller world.now.now.soft)) }
 {
     let Some(function) = world.child_function(controller.get()) else {
         return Ok(Vec::new(world.alloc()));
     };
     let images = numbers_of(world.alloc(), world.bus_list(function))?;
-    drivers_of(world, images.as_slice(), all)
+    drivers_of(world, images.as_slice(), marked, all)
 }
 
-/// The drivers that the handles of a list mean.
+/// The unmarked drivers that the handles of a list mean.
+#[tactic(auto, using(crate::proofs::LeftOut::unmarked_append))]
 fn drivers_of(
     world: &World,
     handles: &[u64],
+    marked: &StartedDrivers,
     all: &[BindingBlock],
 ) -> Result<Vec<BindingBlock>, OutOfMemory>
-    requires { all.now ≡ all_bindings_value world.now.now.soft }
+    requires { all.now ≡ unmarked marked.now (all_bindings_value world.now.now.soft) }
     ensures { IfOk result (λ blocks.
-        blocks.items ≡ flat_map (drivers_by world.now.now.soft) handles.now) }
+        blocks.items ≡ unmarked marked.now (flat_map (drivers_by world.now.now.soft) handles.now)) }
 {
     let mut blocks = Vec::new(world.alloc());
     for handle in handles {
-        add_drivers(&mut blocks, world, *handle, all)?;
+        add_drivers(&mut blocks, world, *handle, marked, all)?;
     }
     Ok(blocks)
 }
 
-/// Puts the drivers that a handle means after others.
+/// Puts the unmarked drivers that a handle means after others.
+#[tactic(auto, using(crate::proofs::LeftOut::filter_swap))]
 fn add_drivers(
     blocks: &mut Vec<BindingBlock>,
     world: &World,
     handle: u64,
+    marked: &StartedDrivers,
     all: &[BindingBlock],
 ) -> Result<(), OutOfMemory>
-    requires { all.now ≡ all_bindings_value world.now.now.soft }
+    requires { all.now ≡ unmarked marked.now (all_bindings_value world.now.now.soft) }
     ensures { OnOk result (blocks.new.items ≡
-        blocks.old.items ++ drivers_by world.now.now.soft handle) }
+        blocks.old.items ++ unmarked marked.now (drivers_by world.now.now.soft handle)) }
 {
     match binding(world, handle) {
-        Some(block) => {
-            blocks.push(block)?;
-            Ok(())
-        }
+        Some(block) => add_unmarked(blocks, block, marked),
         None => add_of_image(blocks, all, handle),
     }
+}
+
+/// Puts a driver after others if it is not marked.
+fn add_unmarked(
+    blocks: &mut Vec<BindingBlock>,
+    block: BindingBlock,
+    marked: &StartedDrivers,
+) -> Result<(), OutOfMemory>
+    ensures { OnOk result (blocks.new.items ≡
+        blocks.old.items ++ unmarked marked.now (block ∷ [])) }
+{
+    if !marked.has(block.handle.get()) {
+        blocks.push(block)?;
+    }
+    Ok(())
 }
 
 /// Puts the drivers of an image after others.
@@ -163,19 +207,23 @@ fn sort_by_version(blocks: &mut Vec<BindingBlock>) -> Result<(), OutOfMemory>
     Ok(())
 }
 
-/// Puts after the drivers that are chosen those that are not, in their order.
-fn add_others(
+/// The drivers that are chosen, and after them those of others that are not, in their order.
+fn with_others(
     alloc: Global,
-    chosen: &mut Vec<BindingBlock>,
-    blocks: &[BindingBlock],
-) -> Result<(), OutOfMemory>
-    ensures { OnOk result (chosen.new.items ≡
-        chosen.old.items ++
-        filter (λ block. not (is_among_value chosen.old.items block)) blocks.now) }
+    chosen: Vec<BindingBlock>,
+    others: Vec<BindingBlock>,
+) -> Result<Vec<BindingBlock>, OutOfMemory>
+    ensures { IfOk result (λ blocks. blocks.items ≡
+        chosen.items ++
+        filter (λ block. not (is_among_value chosen.items block)) others.items) }
 {
-    let others = without(alloc, blocks, chosen.as_slice())?;
-    chosen.extend_from_slice(others.as_slice())?;
-    Ok(())
+    if chosen.is_empty() {
+        return Ok(others);
+    }
+    let left = without(alloc, others.as_slice(), chosen.as_slice())?;
+    let mut blocks = chosen;
+    blocks.extend_from_slice(left.as_slice())?;
+    Ok(blocks)
 }
 
 /// The drivers of a list that are none of those chosen, in their order.

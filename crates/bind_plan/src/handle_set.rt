@@ -42,10 +42,6 @@ fn drivers_outside(
 }
 
 /// The drivers of a list whose handles are none of these, in their order.
-///
-/// # Errors
-///
-/// `OutOfMemory` if there is no memory for the list or for a set of the handles.
 #[tactic(auto, using(crate::proofs::HandleSets::outside_is_unmarked))]
 pub fn drivers_without(
     alloc: Global,

@@ -4,7 +4,7 @@
 //! `bindings` reads driver bindings out of guest memory. `driver_order` has the order in which
 //! ConnectController asks drivers whether they support a controller, and `stop_order` the list of drivers
 //! that DisconnectController stops; `agent_records` says whether an agent has a record on a controller. `numbers`
-//! has handles as numbers, and `handle_set` sets of them, which find a driver among many. No call changes the
+//! has handles as numbers, and `handle_set` and `started_drivers` sets of them, which find a driver among many. No call changes the
 //! world, and each answers what the definitions of `driver_model` say: `specs/Bindings.antt`,
 //! `DriverOrder.antt` and `StopOrder.antt`.
 #![tactic(auto)]
@@ -14,14 +14,15 @@ mod bindings;
 mod driver_order;
 mod handle_set;
 mod numbers;
+mod started_drivers;
 mod stop_order;
 
 pub use agent_records::has_record_on;
 pub use bindings::binding;
 pub use driver_model::BindingBlock;
-pub use driver_order::order;
-pub use handle_set::drivers_without;
+pub use driver_order::{order, order_of_unmarked};
 pub use numbers::numbers_of;
+pub use started_drivers::StartedDrivers;
 pub use stop_order::stop_list;
 
 #[cfg(test)]

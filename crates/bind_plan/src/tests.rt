@@ -1,5 +1,5 @@
-use crate::{BindingBlock, binding, order, stop_list};
-use fw_types::{Attr, Guid, Handle, Known, put_u32, put_u64};
+use crate::{BindingBlock, StartedDrivers, binding, order, order_of_unmarked, stop_list};
+use fw_types::{Attr, Guid, Handle, Known, OutOfMemory, put_u32, put_u64};
 use fw_world::World;
 use guest_memory::SegKind;
 use pci_model::{Board, BoardLine, board_from};
@@ -122,6 +122,53 @@ fn drivers_in_order_in(rt: &(impl AllocGlobal + Abort), world: &World) -> Result
         );
     }
     Ok(())
+}
+
+/// Marked handles, a context and a platform list, and the handles of the unmarked drivers in their order.
+type MarkedRow = (
+    &'static [u64],
+    &'static [u64],
+    &'static [u64],
+    &'static [u64],
+);
+
+const MARKED_ROWS: [MarkedRow; 6] = [
+    (&[6], &[], &[], &[4, 5, 2]),
+    (&[4, 2, 6, 5], &[], &[], &[]),
+    // those that stand for an image
+    (&[4], &[], &[9], &[6, 5, 2]),
+    (&[5, 6], &[5], &[6, 2], &[2, 4]),
+    (&[5], &[4, 5], &[], &[4, 6, 2]),
+    // handles that have no driver
+    (&[77, 3, 0], &[2], &[], &[2, 6, 4, 5]),
+];
+
+#[test]
+fn unmarked_drivers_in_order(rt: HostRuntime) -> Result<(), Fail> {
+    let world = with_drivers(&rt)?;
+    unmarked_drivers_in_order_in(&rt, &world)
+}
+
+fn unmarked_drivers_in_order_in(
+    rt: &(impl AllocGlobal + Abort),
+    world: &World,
+) -> Result<(), Fail> {
+    let controller = numbered(rt, 3);
+    for (marked, context, platform, wanted) in MARKED_ROWS {
+        let started = started_drivers(rt, marked)?;
+        let blocks = order_of_unmarked(world, controller, context, platform, &started)?;
+        assert!(rt; are_of(blocks.as_slice(), wanted), "at {marked:?}");
+    }
+    Ok(())
+}
+
+/// Drivers with these handles, as started one after the other.
+fn started_drivers(rt: &impl AllocGlobal, handles: &[u64]) -> Result<StartedDrivers, OutOfMemory> {
+    let mut started = StartedDrivers::new(rt.alloc());
+    for handle in handles {
+        started.add(*handle)?;
+    }
+    Ok(started)
 }
 
 /// A world with a root bridge, handle 3, and a child of it, 4, for function 0; with the drivers 5 and 6 of

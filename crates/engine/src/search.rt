@@ -11,6 +11,7 @@ ghost use Rattle.bind_parts.specs.Events.{NoFewerEvents};
 
 use crate::driver_call::call_driver;
 use bind_parts::{driver_call, drivers_to_ask, is_success};
+use bind_plan::StartedDrivers;
 use driver_model::order_laws::searches_go_on;
 use driver_model::{BindingBlock, CallKind, Connection, Scope, Settings};
 use fw_types::{Handle, OutOfMemory};
@@ -43,7 +44,7 @@ pub fn search(
     ensures events { OnOk result (NoFewerEvents world.old.now world.new.now) }
 {
     searches_go_on();
-    let mut marked = Vec::new(world.alloc());
+    let mut marked = StartedDrivers::new(world.alloc());
     let mut any = false;
     'searches: loop {
         let found = find(
@@ -52,7 +53,7 @@ pub fn search(
         let Some(block) = found else {
             return Ok(any);
         };
-        marked.insert(0, block.handle.get())?;
+        marked.add(block.handle.get())?;
         let call = driver_call(CallKind::Start, &block, c);
         let outcome = call_driver(world, settings, room, scope, &call, &[])?;
         any = either(any, is_success(outcome));
@@ -80,7 +81,7 @@ fn find(
     c: &Connection,
     controller: Handle,
     context: &[u64],
-    marked: &[u64],
+    marked: &StartedDrivers,
 ) -> Result<Option<BindingBlock>, OutOfMemory>
     requires room { room < most_levels }
     requires free { is_free (room + 1) (stacks world.old.now.soft) world.old.marks ≡ true }

@@ -81,8 +81,8 @@ search::ask-returns-clause-now t c = sym c.loop-block.invariant.rest ∙ asked_a
 pub search::search-searches-smaller : goal.search::search-searches-smaller
 search::search-searches-smaller t c =
     let cheap : c.find.new.world.now.hard.units < c.searches.world.now.hard.units =
-    c.searches_go_on.ensures.costs c.args.settings.now c.args.room c.args.scope c.args.c.now c.args.context.now c.searches.marked.items c.searches.world.now c.find.new.world.now c.in-Some.block c.requires.room
-    (rw (← c.in-Some.is, ← c.deref.ensures.value) c.in_ok-found.ensures.now) in
+    c.searches_go_on.ensures.costs c.args.settings.now c.args.room c.args.scope c.args.c.now c.args.context.now c.searches.marked c.searches.world.now c.find.new.world.now c.in-Some.block c.requires.room
+    (rw (← c.in-Some.is) c.in_ok-found.ensures.now) in
     omega (arith, cheap, c.in_ok-outcome.ensures.units)
 
 -- ---- children

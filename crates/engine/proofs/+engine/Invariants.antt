@@ -181,7 +181,7 @@ invariant-connection::visit_children-loop-child l = record {
 abbrev pub invariant-search::search-searches : goal.invariant-search::search-searches
 invariant-search::search-searches l = record {
   rest :
-      search plain l.settings (level_at l.settings l.room) l.scope l.c l.context l.marked.items l.any l.world.now
+      search plain l.settings (level_at l.settings l.room) l.scope l.c l.context l.marked l.any l.world.now
       ≡ search plain l.fn.settings (level_at l.fn.settings l.fn.room) l.fn.scope l.fn.c l.fn.context [] false l.fn.world.now;
   marks : l.world.marks ≡ l.fn.world.marks;
   stacks : stacks l.world.now.soft ≡ stacks l.fn.world.now.soft;
