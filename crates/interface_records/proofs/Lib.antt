@@ -1,0 +1,11 @@
+pub mod ApartLemmas
+pub mod CountLemmas
+pub mod DownLemmas
+pub mod IndexLemmas
+pub mod LeavingLemmas
+pub mod ListingLemmas
+pub mod PlaceLemmas
+pub mod PutLemmas
+pub mod RowLemmas
+pub mod SearchLemmas
+pub mod StampLemmas
