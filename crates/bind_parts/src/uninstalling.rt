@@ -1,8 +1,6 @@
 //! What the uninstall of an interface looks at and removes (UEFI 2.8, 7.3:
 //! UninstallProtocolInterface and UninstallMultipleProtocolInterfaces).
-ghost use Rattle.std.specs.Prelude.{◌≡◌, ◌<◌, IfOk, IfSome, None, OnOk, Some, false, find, if◌then◌else◌, is_ok, option_map, true};
-ghost use Rattle.open_records.specs.Managing.{is_managing};
-ghost use Rattle.open_records.specs.declared.open_record.Rec.{Rec as RecValue};
+ghost use Rattle.std.specs.Prelude.{◌≡◌, ◌<◌, IfOk, IfSome, None, OnOk, Some, false, if◌then◌else◌, is_ok, true};
 ghost use Rattle.world_model.specs.Interfaces.{is_lasting, uninstall_answer};
 ghost use Rattle.world_model.specs.Marks.{depth, marked_stacks, older_marks, put_back, stacks};
 ghost use Rattle.driver_model.specs.Allowed.{may_go};
@@ -10,10 +8,9 @@ ghost use Rattle.driver_model.specs.Moves.{changed, plain, uninstalls};
 ghost use Rattle.driver_model.specs.UninstallWithReconnection.{all_or_none, interface_on, is_first_there, is_kept_from, is_still_there, manager_on};
 
 use driver_model::Remover;
-use fw_types::{Attr, Guid, Handle, OutOfMemory, Status};
+use fw_types::{Guid, Handle, OutOfMemory, Status};
 use fw_world::{Mark, World};
 use handle_db::DbRefusal;
-use open_records::Rec;
 use service_model::HandleInterface;
 use service_model::laws::images_do_not_last;
 
@@ -80,28 +77,11 @@ pub fn handle_to_clear(world: &World, remover: Remover, i: &HandleInterface) -> 
     }
 }
 
-/// The agent of the first of these records that has BY_DRIVER.
-fn first_manager(records: &[Rec]) -> Option<u64>
-    ensures { option_map (λ (rec : RecValue). rec.agent) (find is_managing records.now) ≡ result }
+/// The driver that manages the handle by the interface, if one does. Takes no memory.
+pub fn manager_on(world: &World, i: &HandleInterface) -> Option<u64>
+    ensures { result ≡ manager_on i.now world.now.now.soft }
 {
-    for rec in records {
-        if rec.attr.has_bit_of(Attr::BY_DRIVER) {
-            return Some(rec.agent);
-        }
-    }
-    None
-}
-
-/// The driver that manages the handle by the interface, if one does.
-///
-/// # Errors
-///
-/// `OutOfMemory` if there is no memory for the list of the records.
-pub fn manager_on(world: &World, i: &HandleInterface) -> Result<Option<u64>, OutOfMemory>
-    ensures { IfOk result (λ agent. manager_on i.now world.now.now.soft ≡ agent) }
-{
-    let records = world.entries().list(i.handle, i.guid)?;
-    Ok(first_manager(&records))
+    world.entries().manager_on(i.handle, i.guid)
 }
 
 /// Removes an interface of a handle that has it, with its records.

@@ -89,7 +89,7 @@ fn release(
     ensures units { OnOk result (world.new.now.hard.units ≤ world.old.now.hard.units) }
     ensures events { OnOk result (NoFewerEvents world.old.now world.new.now) }
 {
-    let Some(agent) = manager_on(world, i)? else {
+    let Some(agent) = manager_on(world, i) else {
         return Ok(Status::SUCCESS);
     };
     let d = Disconnection {
@@ -160,8 +160,7 @@ fn take_away(
     ensures units { OnOk result (world.new.now.hard.units ≤ world.old.now.hard.units) }
     ensures events { OnOk result (NoFewerEvents world.old.now world.new.now) }
 {
-    let records = world.entries().list(handle, i.guid)?;
-    if records.is_empty() {
+    if world.entries().count_on(handle, i.guid) == 0 {
         remove_interface(world, handle, i.guid)?;
         return Ok(Status::SUCCESS);
     }

@@ -842,11 +842,13 @@ impl World {
 
     // ---- events
 
-    /// Gives a command its units, and forgets the events of the one before. Takes no memory.
+    /// Gives a command its units, and forgets the events of the one before. Between commands no mark
+    /// is open, so what is still kept of open records that went is given up. Takes no memory.
     pub fn begin_command(&mut self, units: u32)
         ensures now { self.new.now ≡ on_hard (command_begun units) self.old.now }
         ensures marks { self.new.marks ≡ self.old.marks }
     {
+        self.soft.tidy();
         self.units = u64::from(units);
         self.events = Vec::new(self.alloc);
     }

@@ -7,16 +7,18 @@ use Rattle.std.proofs.lemmas.Bool.{and_parts, and_from, or_parts, or_from, not-t
 use Rattle.std.proofs.lemmas.Cmp.{nat_eq_equiv, nat_list_eq_equiv}
 use Rattle.fw_types.specs.Attr.{has_bit_of, is_legal}
 use Rattle.fw_types.specs.declared.attr.TheConstants.Attr.{HOLDING_BITS}
-use Rattle.open_records.specs.OpenRecords.{RecordTable, IsSound, clash, falls, is_after, is_before, is_equal, is_kept, is_of, is_strong, records_of, rise, stand_apart}
+use Rattle.open_records.specs.OpenRecords.{RecordTable, IsSound, clash, is_equal, is_kept, is_strong, stand_apart}
+use Rattle.record_table.specs.Keyed.{falls, is_after, is_before, is_of, records_of, rise}
 use Rattle.open_records.specs.Verdicts.{Rule, against, applies, judge, may_enter, rules, says}
 use Rattle.open_records.specs.declared.verdict.Verdict.TheVariants.{Add, Count}
-use Rattle.open_records.specs.Adding.{added, first, is_full, most, raised, with_new, with_raised}
-use Rattle.open_records.specs.Table.{IsNew}
-use Rattle.open_records.specs.declared.open_record.KeyedRecord.{KeyedRecord}
-use Rattle.open_records.specs.declared.open_record.Rec.{Rec}
-use Rattle.open_records.proofs.ListLemmas.{any_filtered, any_same, no_pair-insert, no_pair-map}
-use Rattle.open_records.proofs.Order.{before_is_after, before-not_after, after-not_before, here-not_after}
-use Rattle.open_records.proofs.RangeLemmas.{three_parts}
+use Rattle.open_records.specs.Adding.{added, first, is_full}
+use Rattle.record_table.specs.Changing.{most, raised, with_new, with_raised}
+use Rattle.record_table.specs.Table.{IsNew}
+use Rattle.record_table.specs.declared.open_record.KeyedRecord.{KeyedRecord}
+use Rattle.interface_records.specs.declared.open_record.Rec.{Rec}
+use Rattle.record_table.proofs.ListLemmas.{any_of_filter, any_filtered, any_same, no_pair-insert, no_pair-map}
+use Rattle.record_table.proofs.Order.{before_is_after, before-not_after, after-not_before, here-not_after}
+use Rattle.record_table.proofs.RangeLemmas.{three_parts}
 
 -- ---- the verdict
 
@@ -82,18 +84,6 @@ new_record handle guid agent controller attr rec entries after is same enters no
     })
 
 -- ---- clashes
-
-pub any_of_filter : {X Y : Type 0} (f : X → Y) (p : X → Bool) (q : Y → Bool) (xs : List X) → list_any q (map f (filter p xs)) ≡ false → list_any (λ x. p x && q (f x)) xs ≡ false
-any_of_filter f p q [] none = refl
-any_of_filter f p q (x ∷ xs) none = elim (cases_Bool (p x)) [
-  | inl passes ↦
-      let both : (q (f x) || list_any q (map f (filter p xs))) ≡ false = rw passes at none in
-      let parts = or_parts (q (f x)) (list_any q (map f (filter p xs))) both in
-      rw passes (or_from (q (f x)) (list_any (λ y. p y && q (f y)) xs) parts.0 (any_of_filter f p q xs parts.1))
-  | inr fails ↦
-      let rest : list_any q (map f (filter p xs)) ≡ false = rw fails at none in
-      rw fails (any_of_filter f p q xs rest)
-]
 
 and_swap : (a b : Bool) → (a && b) ≡ (b && a)
 and_swap true true = refl

@@ -6,14 +6,16 @@ use Rattle.std.proofs.lemmas.List.Elements.{filter-append}
 use Rattle.std.proofs.lemmas.List.Folds.{list_any-append}
 use Rattle.std.proofs.lemmas.Bool.{and_from, and_parts, both_ways, eq-eqb, eqb-true, not-true, or_parts, or_right}
 use Rattle.std.proofs.lemmas.Bool.Decides.{nat_tests}
-use Rattle.open_records.specs.OpenRecords.{IsSound, RecordTable, clash, is_after, is_before, is_equal, is_kept, is_of, is_strong, no_pair, records_of, rise, stand_apart}
-use Rattle.open_records.specs.Adding.{added, first, raised, with_new, with_raised}
-use Rattle.open_records.specs.PuttingBack.{CountingIsUndoing, count_in, count_set, counted, is_open}
-use Rattle.open_records.specs.declared.open_record.KeyedRecord.{KeyedRecord}
-use Rattle.open_records.specs.declared.open_record.Rec.{Rec}
+use Rattle.open_records.specs.OpenRecords.{IsSound, RecordTable, clash, is_equal, is_kept, is_strong, stand_apart}
+use Rattle.record_table.specs.Keyed.{is_after, is_before, is_of, no_pair, records_of, rise}
+use Rattle.open_records.specs.Adding.{added, first}
+use Rattle.record_table.specs.Changing.{raised, with_new, with_raised, count_in, counted, is_open}
+use Rattle.open_records.specs.PuttingBack.{CountingIsUndoing, count_set}
+use Rattle.record_table.specs.declared.open_record.KeyedRecord.{KeyedRecord}
+use Rattle.interface_records.specs.declared.open_record.Rec.{Rec}
 use Rattle.open_records.proofs.AddingLemmas.{all_between, new_between}
-use Rattle.open_records.proofs.ListLemmas.{any_map, any_weaker}
-use Rattle.open_records.proofs.Order.{of_itself, same_from_of}
+use Rattle.record_table.proofs.ListLemmas.{any_map, any_weaker}
+use Rattle.record_table.proofs.Order.{of_itself, same_from_of}
 
 -- ---- lists
 

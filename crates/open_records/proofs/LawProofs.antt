@@ -7,14 +7,17 @@ use Rattle.std.proofs.lemmas.List.Sums.{length-filter}
 use Rattle.std.proofs.lemmas.Bool.{and_parts, or_parts, or_from, not-true, not_from_true, or_cases, both_ways, cases_Bool, eqb-true}
 use Rattle.fw_types.specs.Attr.{has_bit_of, is_legal, legal_attributes}
 use Rattle.fw_types.specs.declared.attr.TheConstants.Attr.{ALL_BITS}
-use Rattle.open_records.specs.OpenRecords.{clash, is_after, is_before, is_equal, is_kept, is_of, is_strong, no_pair, records_of, rise, stand_apart}
-use Rattle.open_records.specs.Adding.{first, raised, raised_where, with_new, with_raised}
+use Rattle.open_records.specs.OpenRecords.{clash, is_equal, is_kept, is_strong, stand_apart}
+use Rattle.record_table.specs.Keyed.{is_after, is_before, is_of, no_pair, records_of, rise, is_same}
+use Rattle.open_records.specs.Adding.{first}
+use Rattle.record_table.specs.Changing.{raised, raised_where, with_new, with_raised}
 use Rattle.open_records.specs.Leaving.{is_meant, is_named, naming_after, with_places_from}
-use Rattle.open_records.specs.Laws.{AddedHere, AddedNotElsewhere, AddingKeeps, AllCut, CutHere, CutNotElsewhere, CutOnHere, CutOnNotElsewhere, CuttingKeeps, CuttingOnKeeps, NoEqualRecords, NoneNamed, OneHolder, SweepingKeeps, SweptEverywhere, SweptPlaces, is_same}
-use Rattle.open_records.specs.declared.open_record.KeyedRecord.{KeyedRecord}
-use Rattle.open_records.specs.declared.open_record.Rec.{Rec}
-use Rattle.open_records.proofs.ListLemmas.{all_filter, any_filtered, any_map, any_weaker, filter-map, filter_both, filter_none}
-use Rattle.open_records.proofs.Order.{after-not_here, of_itself, same_from_of}
+use Rattle.open_records.specs.Laws.{AddedHere, AddedNotElsewhere, AddingKeeps, AllCut, CutHere, CutNotElsewhere, CutOnHere, CutOnNotElsewhere, CuttingKeeps, CuttingOnKeeps, NoEqualRecords, NoneNamed, OneHolder, SweepingKeeps, SweptEverywhere, SweptPlaces}
+use Rattle.record_table.specs.declared.open_record.KeyedRecord.{KeyedRecord}
+use Rattle.interface_records.specs.declared.open_record.Rec.{Rec}
+use Rattle.record_table.proofs.LeftLemmas.{filtered_here, left_elsewhere, left_here, other_interface, stays_there}
+use Rattle.record_table.proofs.ListLemmas.{all_filter, any_filtered, any_map, any_weaker, filter-map, filter_both, filter_none}
+use Rattle.record_table.proofs.Order.{after-not_here, of_itself, same_from_of}
 use Rattle.open_records.proofs.AddingLemmas.{added_sound, all_between, new_between}
 use Rattle.open_records.proofs.RemovalLemmas.{cut_on_sound, cut_sound, swept_sound}
 
@@ -121,11 +124,6 @@ sweeping_keeps table sound name = swept_sound name table sound
 -- ---- one interface, and the others
 
 -- a record of one interface is of no other
-other_interface : (handle : ℕ) (guid : List ℕ) (other_handle : ℕ) (other_guid : List ℕ) (one : KeyedRecord) → is_same handle guid other_handle other_guid ≡ false → is_of handle guid one ≡ true → is_of other_handle other_guid one ≡ false
-other_interface handle guid other_handle other_guid one differ here =
-    let same = same_from_of handle guid one here in
-    rw (same.same_handle, same.same_guid) differ
-
 raised_one : (here passes : Bool) (one : KeyedRecord) (mine : List KeyedRecord) (test : Rec → Bool) (records : List Rec) → test one.rec ≡ passes → map (λ (o : KeyedRecord). o.rec) mine ≡ map (raised_where test) records
     → map (λ (o : KeyedRecord). o.rec) (if here then (if here && passes then record one { rec = raised one.rec } else one) ∷ mine else mine) ≡ map (raised_where test) (if here then one.rec ∷ records else records)
 raised_one true true one mine test records is rest = rw is (ap (λ l. raised one.rec ∷ l) rest)
@@ -216,31 +214,11 @@ added_not_elsewhere table sound handle guid agent controller attr other_handle o
     (records_of table.entries other_handle other_guid)
     (raised_elsewhere handle guid (is_equal agent controller attr) other_handle other_guid differ table.entries) (new_elsewhere handle guid rec table.entries sound.rising other_handle other_guid differ)
 
-stays_here : (here passes : Bool) → (here && not passes) ≡ (not (here && passes) && here)
-stays_here true true = refl
-stays_here true false = refl
-stays_here false passes = refl
-
-stays_there : (there here passes : Bool) → (here ≡ true → there ≡ false) → there ≡ (not (here && passes) && there)
-stays_there there true true differ = differ refl
-stays_there there true false differ = refl
-stays_there there false passes differ = refl
-
--- a filter of the records of an interface
-filtered_here : (handle : ℕ) (guid : List ℕ) (test : Rec → Bool) (entries : List KeyedRecord) → filter test (records_of entries handle guid) ≡ map (λ (o : KeyedRecord). o.rec) (filter (λ (o : KeyedRecord). is_of handle guid o && test o.rec) entries)
-filtered_here handle guid test entries =
-    filter-map (λ (o : KeyedRecord). o.rec) test (filter (is_of handle guid) entries)
-    ∙ ap (map (λ (o : KeyedRecord). o.rec)) (filter_both (is_of handle guid) (λ (o : KeyedRecord). test o.rec) (λ (o : KeyedRecord). is_of handle guid o && test o.rec) entries (λ o. refl))
-
 pub cut_here : CutHere
-cut_here table handle guid test =
-    ap (map (λ (o : KeyedRecord). o.rec)) (filter_both (λ (o : KeyedRecord). not (is_of handle guid o && test o.rec)) (is_of handle guid) (λ (o : KeyedRecord). is_of handle guid o && not (test o.rec)) table.entries (λ o. stays_here (is_of handle guid o) (test o.rec)))
-    ∙ sym (filtered_here handle guid (λ (rec : Rec). not (test rec)) table.entries)
+cut_here table handle guid test = left_here handle guid test table.entries
 
 pub cut_not_elsewhere : CutNotElsewhere
-cut_not_elsewhere table handle guid test other_handle other_guid differ =
-    ap (map (λ (o : KeyedRecord). o.rec)) (filter_both (λ (o : KeyedRecord). not (is_of handle guid o && test o.rec)) (is_of other_handle other_guid) (is_of other_handle other_guid) table.entries
-    (λ o. stays_there (is_of other_handle other_guid o) (is_of handle guid o) (test o.rec) (other_interface handle guid other_handle other_guid o differ)))
+cut_not_elsewhere table handle guid test other_handle other_guid differ = left_elsewhere handle guid test other_handle other_guid differ table.entries
 
 stays_on : (on of_guid passes : Bool) → ((on && of_guid) && not passes) ≡ (not (on && passes) && (on && of_guid))
 stays_on true true true = refl

@@ -1,20 +1,23 @@
 -- What is collected with the records of one more protocol.
-use Rattle.std.proofs.Common.{◌≡◌, ◌<◌, ◌≤◌, ℕ, suc, false, not, nat_eq, List, [], ◌∷◌, ◌++◌, length, map, filter, find, get_or, drop, Option, refl, sym, ap, ◌∙◌, inl, inr, arith}
+use Rattle.std.proofs.Common.{◌≡◌, ◌<◌, ◌≤◌, ℕ, suc, Bool, true, false, not, ◌&&◌, nat_eq, List, [], ◌∷◌, ◌++◌, length, map, filter, find, get_or, drop, Option, None, refl, sym, ap, ◌∙◌, inl, inr, arith}
 use Rattle.std.specs.Int.RustNames.{bit_and}
-use Rattle.std.specs.List.{list_any}
 use Rattle.std.specs.Option.{option_to_list}
-use Rattle.std.proofs.lemmas.Bool.{cases_Bool, eqb-true, eq-eqb, not-false, or_parts}
+use Rattle.std.proofs.lemmas.Bool.{cases_Bool, eqb-true, eq-eqb, not-false}
 use Rattle.std.proofs.lemmas.Nat.{and_assoc}
 use Rattle.fw_types.specs.declared.attr.TheConstants.Attr.{BY_CHILD_CONTROLLER, BY_DRIVER, HOLDING_BITS}
 use Rattle.std.proofs.Math.Seq.{drop-cons}
 use Rattle.std.proofs.lemmas.List.{map-append}
 use Rattle.std.proofs.lemmas.List.Elements.{filter-append}
-use Rattle.open_records.specs.OpenRecords.{is_strong, records_of}
+use Rattle.open_records.specs.OpenRecords.{is_strong}
+use Rattle.record_table.specs.Keyed.{records_of}
 use Rattle.open_records.specs.Managing.{child_numbers, is_child, is_managing, manager_numbers, records_on}
 use Rattle.open_records.specs.Places.{joined}
-use Rattle.open_records.specs.declared.open_record.KeyedRecord.{KeyedRecord}
-use Rattle.open_records.specs.declared.open_record.Rec.{Rec}
+use Rattle.record_table.specs.declared.open_record.KeyedRecord.{KeyedRecord}
+use Rattle.interface_records.specs.declared.open_record.Rec.{Rec}
+use Rattle.interface_records.specs.Records.{is_for_child}
+use Rattle.open_records.specs.Leaving.{fits}
 use Rattle.open_records.proofs.DistinctNumbers.{joined-append}
+use Rattle.record_table.proofs.ListLemmas.{filter_both}
 
 children-append : (agent : Option ℕ) (records more : List Rec) → child_numbers agent (records ++ more) ≡ child_numbers agent records ++ child_numbers agent more
 children-append agent records more = ap (map (λ (rec : Rec). rec.controller)) (filter-append (is_child agent) records more) ∙ map-append (λ (rec : Rec). rec.controller) (filter (is_child agent) records) (filter (is_child agent) more)
@@ -68,13 +71,33 @@ managing_is records one = ap (map (λ (rec : Rec). rec.agent)) (by_filter record
           rw (weak, weak_agent rec weak) (by_filter records rest)
     ]
 
--- ---- an interface without a BY_CHILD_CONTROLLER record
+found_none : (records : List Rec) → length (filter is_strong records) ≡ 0 → find is_managing records ≡ None
+found_none [] none = refl
+found_none (rec ∷ records) none = elim (cases_Bool (is_strong rec)) [
+  | inl strong ↦ let more : suc (length (filter is_strong records)) ≡ 0 = rw strong at none in absurd (omega arith)
+  | inr weak ↦ let rest : length (filter is_strong records) ≡ 0 = rw weak at none in rw (weak_agent rec weak) (found_none records rest)
+]
 
-pub no_children : (agent : Option ℕ) (records : List Rec) → list_any (λ (rec : Rec). nat_eq rec.attr BY_CHILD_CONTROLLER) records ≡ false → child_numbers agent records ≡ []
-no_children agent records none = ap (map (λ (rec : Rec). rec.controller)) (by_filter records none)
+-- and it alone may be found
+pub manager_is : (records : List Rec) → length (filter is_strong records) ≤ 1 → find is_managing (option_to_list (find is_strong records)) ≡ find is_managing records
+manager_is [] one = refl
+manager_is (rec ∷ records) one = elim (cases_Bool (is_strong rec)) [
+  | inl strong ↦
+      let most : suc (length (filter is_strong records)) ≤ 1 = rw strong at one in
+      let none = found_none records (omega arith) in
+      rw (strong, none) refl
+  | inr weak ↦
+      let rest : length (filter is_strong records) ≤ 1 = rw weak at one in
+      rw (weak, weak_agent rec weak) (manager_is records rest)
+]
+
+-- ---- the BY_CHILD_CONTROLLER records alone
+
+pub of_children : (agent : Option ℕ) (records : List Rec) → child_numbers agent (filter is_for_child records) ≡ child_numbers agent records
+of_children agent records =
+    ap (map (λ (rec : Rec). rec.controller))
+    (filter_both is_for_child (is_child agent) (is_child agent) records (λ rec. by_bool (nat_eq rec.attr BY_CHILD_CONTROLLER) (fits agent rec.agent) (not (nat_eq rec.controller 0))))
   where
-    by_filter : (records : List Rec) → list_any (λ (rec : Rec). nat_eq rec.attr BY_CHILD_CONTROLLER) records ≡ false → filter (is_child agent) records ≡ []
-    by_filter [] none = refl
-    by_filter (rec ∷ records) none =
-        let parts = or_parts (nat_eq rec.attr BY_CHILD_CONTROLLER) (list_any (λ (rec : Rec). nat_eq rec.attr BY_CHILD_CONTROLLER) records) none in
-        rw parts.0 (by_filter records parts.1)
+    by_bool : (a b c : Bool) → ((a && b) && c) ≡ (a && ((a && b) && c))
+    by_bool true b c = refl
+    by_bool false b c = refl

@@ -1,23 +1,13 @@
 -- Entering an open (UEFI 2.8, 7.3: OpenProtocol).
 use Rattle.std.specs.Prelude.{◌≡◌, ℕ, ◌+◌, ◌-◌, ◌^◌, Bool, true, false, ◌&&◌, not, nat_le, min, List, [], ◌∷◌, ◌++◌, length, map, filter, Result, Ok, Err, if◌then◌else◌}
 use Rattle.std.specs.List.{list_any}
-use Rattle.open_records.specs.OpenRecords.{RecordTable, is_of, is_equal, is_before, is_after, records_of}
-use Rattle.open_records.specs.declared.open_record.Rec.{Rec}
-use Rattle.open_records.specs.declared.open_record.KeyedRecord.{KeyedRecord}
+pub use Rattle.record_table.specs.Changing.{most, raised, raised_where, with_new, with_raised}
+use Rattle.open_records.specs.OpenRecords.{RecordTable, is_equal}
+use Rattle.record_table.specs.Keyed.{is_of, is_before, is_after, records_of}
+use Rattle.interface_records.specs.declared.open_record.Rec.{Rec}
+use Rattle.record_table.specs.declared.open_record.KeyedRecord.{KeyedRecord}
 use Rattle.open_records.specs.declared.fault.RecFault.{RecFault}
 use Rattle.open_records.specs.declared.fault.RecFault.TheVariants.{Full, OutOfMemory}
-
--- the largest count
-abbrev pub most : ℕ
-most = 2 ^ 32 - 1
-
--- a record that counts one more open; the largest count stays
-abbrev pub raised : Rec → Rec
-raised rec = record rec { count = min (rec.count + 1) most }
-
--- a record, which counts one more open if it passes a test
-abbrev pub raised_where : (Rec → Bool) → Rec → Rec
-raised_where test rec = if test rec then raised rec else rec
 
 -- a record's first open
 abbrev pub first : (agent controller attr : ℕ) → Rec
@@ -28,17 +18,6 @@ abbrev pub entered : (agent controller attr : ℕ) → List Rec → List Rec
 entered agent controller attr records =
     if list_any (is_equal agent controller attr) records then map (raised_where (is_equal agent controller attr)) records
     else records ++ first agent controller attr ∷ []
-
--- a record after those of its interface, which are between those of the interfaces before and after
-abbrev pub with_new : KeyedRecord → List KeyedRecord → List KeyedRecord
-with_new new entries =
-    filter (is_before new.handle new.guid) entries
-    ++ (filter (is_of new.handle new.guid) entries ++ new ∷ filter (is_after new.handle new.guid) entries)
-
--- all records, where those that are of an interface and pass a test count one more open
-abbrev pub with_raised : ℕ → List ℕ → (Rec → Bool) → List KeyedRecord → List KeyedRecord
-with_raised handle guid test entries =
-    map (λ (one : KeyedRecord). if is_of handle guid one && test one.rec then record one { rec = raised one.rec } else one) entries
 
 -- all records with one more open of an interface
 abbrev pub with_open : ℕ → List ℕ → (agent controller attr : ℕ) → List KeyedRecord → List KeyedRecord

@@ -3,12 +3,14 @@ use Rattle.std.specs.Prelude.{◌≡◌, ℕ, ◌≤◌, Bool, true, false, ◌&
 use Rattle.std.specs.List.{list_any}
 use Rattle.fw_types.specs.Attr.{is_legal}
 use Rattle.fw_types.specs.declared.attr.TheConstants.Attr.{ALL_BITS}
-use Rattle.open_records.specs.OpenRecords.{RecordTable, IsSound, is_equal, is_strong, records_of}
+pub use Rattle.record_table.specs.Keyed.{is_same}
+use Rattle.open_records.specs.OpenRecords.{RecordTable, IsSound, is_equal, is_strong}
+use Rattle.record_table.specs.Keyed.{records_of}
 use Rattle.open_records.specs.Verdicts.{judge, may_enter}
 use Rattle.open_records.specs.Adding.{added, entered, is_full}
 use Rattle.open_records.specs.Leaving.{cut, cut_on, is_meant, is_named, naming, with_places, swept}
-use Rattle.open_records.specs.declared.open_record.KeyedRecord.{KeyedRecord}
-use Rattle.open_records.specs.declared.open_record.Rec.{Rec}
+use Rattle.record_table.specs.declared.open_record.KeyedRecord.{KeyedRecord}
+use Rattle.interface_records.specs.declared.open_record.Rec.{Rec}
 
 -- ---- a sound table
 
@@ -50,10 +52,6 @@ abbrev pub SweepingKeeps : Type 0
 SweepingKeeps = (table : RecordTable) → IsSound table → (name : ℕ) → IsSound (swept name table)
 
 -- ---- one interface, and the others
-
--- whether two interfaces are the same
-abbrev pub is_same : ℕ → List ℕ → ℕ → List ℕ → Bool
-is_same handle guid other_handle other_guid = nat_eq handle other_handle && bytes_eq guid other_guid
 
 -- an open is one more record of its interface, or is counted there
 abbrev pub AddedHere : Type 0

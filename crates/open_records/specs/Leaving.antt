@@ -1,19 +1,10 @@
 -- Records that go (UEFI 2.8, 7.3: CloseProtocol, and the handles that go).
-use Rattle.std.specs.Prelude.{ℕ, ◌+◌, Bool, true, ◌&&◌, ◌||◌, not, nat_eq, List, [], ◌∷◌, ◌++◌, length, filter, Option, Some, None, if◌then◌else◌}
-use Rattle.fw_types.specs.Attr.{has_bit_of}
-use Rattle.open_records.specs.OpenRecords.{RecordTable, is_of, records_of}
-use Rattle.open_records.specs.declared.open_record.Rec.{Rec}
-use Rattle.open_records.specs.declared.open_record.KeyedRecord.{KeyedRecord}
-
--- whether a number is the one that is given, if one is
-abbrev pub fits : Option ℕ → ℕ → Bool
-fits None number = true
-fits (Some given) number = nat_eq number given
-
--- whether a record is of an agent, if one is given, and for a controller, if one is given, and has one of
--- some bits
-abbrev pub is_meant : (agent controller : Option ℕ) (bits : ℕ) → Rec → Bool
-is_meant agent controller bits rec = fits agent rec.agent && fits controller rec.controller && has_bit_of bits rec.attr
+use Rattle.std.specs.Prelude.{ℕ, ◌+◌, Bool, ◌&&◌, not, nat_eq, List, [], ◌∷◌, ◌++◌, length, filter, if◌then◌else◌}
+pub use Rattle.interface_records.specs.Records.{fits, is_meant, is_named}
+use Rattle.open_records.specs.OpenRecords.{RecordTable}
+use Rattle.record_table.specs.Keyed.{is_of, records_of}
+use Rattle.interface_records.specs.declared.open_record.Rec.{Rec}
+use Rattle.record_table.specs.declared.open_record.KeyedRecord.{KeyedRecord}
 
 -- the records of a list that pass a test, each with its place; the first of the list has this place
 abbrev pub with_places_from : ℕ → (Rec → Bool) → List Rec → List (ℕ × Rec)
@@ -42,10 +33,6 @@ abbrev pub cut_on : ℕ → (Rec → Bool) → RecordTable → RecordTable
 cut_on handle test table = record table { entries = without_on handle test table.entries }
 
 -- ---- a handle that goes
-
--- whether a record names a handle, as its agent or its controller
-abbrev pub is_named : ℕ → Rec → Bool
-is_named name rec = nat_eq rec.agent name || nat_eq rec.controller name
 
 -- the records that name a handle, each with its interface and its place in the list of that interface,
 -- if these records come after others

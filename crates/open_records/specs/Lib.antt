@@ -7,8 +7,5 @@ pub mod Managing
 pub mod Parties
 pub mod Places
 pub mod Laws
-pub mod Store
-pub mod Flat
-pub mod Table
-pub mod Removal
 pub mod PuttingBack
+pub mod Going

@@ -1,13 +1,15 @@
 //! Entering an open.
 ghost use Rattle.std.specs.Prelude.{◌≡◌, true, OnOk, OnErr};
-ghost use Rattle.open_records.specs.Adding.{Gives, is_full, with_open};
-ghost use Rattle.open_records.specs.OpenRecords.{RecordTable, records_of};
+ghost use Rattle.fw_types.specs.Attr.{is_legal};
+ghost use Rattle.open_records.specs.Adding.{Gives, first, is_full, with_open};
+ghost use Rattle.open_records.specs.OpenRecords.{RecordTable};
+ghost use Rattle.record_table.specs.Keyed.{records_of};
 ghost use Rattle.open_records.specs.Verdicts.{judge, may_enter};
 
 use crate::fault::RecFault;
-use crate::open_record::{KeyedRecord, Rec};
-use crate::table::Table;
 use fw_types::{Attr, Guid, Handle};
+use interface_records::Rec;
+use record_table::{KeyedRecord, Table};
 
 /// Puts a record after those of an interface, or counts one more open in the record that is equal to it.
 pub fn enter(
@@ -31,7 +33,22 @@ pub fn enter(
     if table.len() >= limit as usize {
         return Err(RecFault::Full);
     }
-    let rec = Rec::first(agent, controller, attr);
+    let rec = first_open(agent, controller, attr);
     table.insert(KeyedRecord { handle, guid, rec })?;
     Ok(())
+}
+
+/// The record of a first open.
+fn first_open(agent: u64, controller: u64, attr: Attr) -> Rec
+    ensures value { result ≡ first agent controller attr }
+    ensures legal { is_legal result.attr ≡ true }
+{
+    // the contract of `bits` says that an attribute is legal
+    let _bits = attr.bits();
+    Rec {
+        agent,
+        controller,
+        attr,
+        count: 1,
+    }
 }

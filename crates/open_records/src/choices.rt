@@ -1,57 +1,10 @@
-//! Tests of records.
-ghost use Rattle.std.specs.Prelude.{◌≡◌, Bool, ◌&&◌, nat_eq, not};
-ghost use Rattle.open_records.specs.Leaving.{is_meant};
-ghost use Rattle.open_records.specs.Asking.{asked_on};
+//! Tests of records by the database.
+ghost use Rattle.std.specs.Prelude.{◌≡◌, not};
 ghost use Rattle.open_records.specs.Parties.{are_parties_live, belongs_to, is_none_or_live, is_use_of};
-ghost use Rattle.open_records.specs.declared.open_record.KeyedRecord.{KeyedRecord as KeyedValue};
 
-use crate::indexes::{Interface, Query};
-use crate::open_record::KeyedRecord;
 use fw_types::{Attr, Guid, Handle};
 use handle_db::Db;
-
-/// A test of records.
-pub trait Test {
-    ghost chosen: { Self → KeyedValue → Bool };
-
-    /// Whether a record passes it.
-    fn chooses(&self, one: &KeyedRecord) -> bool
-        ensures { result ≡ chosen self.now one.now };
-}
-
-/// The records of an agent, if one is given, and for a controller, if one is given, that have one of some
-/// bits.
-#[derive(Clone, Copy)]
-pub struct Meant {
-    pub agent: Option<u64>,
-    pub controller: Option<u64>,
-    pub bits: u32,
-}
-
-impl Meant {
-    /// The query for those of an interface, if an agent is given.
-    pub(crate) fn asked_on(&self, interface: Interface) -> Option<Query>
-        ensures { result ≡ asked_on interface self.now }
-    {
-        match self.agent {
-            None => None,
-            Some(agent) => Some(Query {
-                interface,
-                agent,
-                controller: self.controller,
-                bits: self.bits,
-            }),
-        }
-    }
-}
-
-impl Test for Meant {
-    ghost chosen = { λ meant one. is_meant meant.agent meant.controller meant.bits one.rec };
-
-    fn chooses(&self, one: &KeyedRecord) -> bool {
-        one.rec.is_meant(self.agent, self.controller, self.bits)
-    }
-}
+use record_table::{KeyedRecord, Test};
 
 /// The records whose agents belong to an image: the agent is the image's own handle, or the image owns its
 /// interface of a protocol.

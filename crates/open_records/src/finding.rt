@@ -1,18 +1,21 @@
-//! The lists of records that go, each record with its place.
-ghost use Rattle.std.specs.Prelude.{◌≡◌, ◌<◌, ◌^◌, ◌++◌, ◌∷◌, [], length, true, IfOk, OnOk};
+//! The lists of records that go, each record with its place. They walk over all records of an interface of
+//! which one goes.
+ghost use Rattle.std.specs.Prelude.{◌≡◌, ◌<◌, ◌^◌, ◌++◌, length, true, IfOk, OnOk};
 ghost use Rattle.open_records.specs.Leaving.{is_meant, with_places};
-ghost use Rattle.open_records.specs.OpenRecords.{records_of, rise};
-ghost use Rattle.open_records.specs.Places.{places_on};
-ghost use Rattle.open_records.specs.PuttingBack.{gone_by, picks};
+ghost use Rattle.record_table.specs.Keyed.{records_of, rise};
+ghost use Rattle.open_records.specs.Places.{placed_by, places_on};
+ghost use Rattle.open_records.specs.PuttingBack.{picks};
 
-use crate::choices::{Meant, Test};
-use crate::going::Going;
-use crate::open_record::{KeyedRecord, Rec};
-use crate::table::Table;
-use crate::undoing::{Choice, Gone};
+use crate::undoing::Choice;
 use crate::walking::next_of;
 use fw_types::{Guid, Handle, OutOfMemory};
+use interface_records::{Meant, Rec};
+use record_table::{KeyedRecord, Table, Test};
 use std::alloc::Global;
+
+/// A record that goes: the handle and the GUID of its interface, the place, from 0, that it has among the
+/// records of that interface, and what it is.
+pub type Placed = (Handle, Guid, u32, Rec);
 
 /// Those of an interface's records that are meant, each with its place.
 pub fn meant_among(
@@ -26,40 +29,14 @@ pub fn meant_among(
 {
     let mut found = Vec::new(alloc);
     for (place, rec) in mine.iter().enumerate() {
-        if rec.is_meant(meant.agent, meant.controller, meant.bits) {
+        if rec.is_meant(meant) {
             found.push((place as u32, *rec))?;
         }
     }
     Ok(found)
 }
 
-/// The same, of the interface's records as they stand.
-fn meant_listed(
-    alloc: Global,
-    table: &Table,
-    handle: Handle,
-    guid: Guid,
-    meant: &Meant,
-) -> Result<Vec<(u32, Rec)>, OutOfMemory>
-    requires { length table.now < 2 ^ 32 }
-    ensures { let test = is_meant meant.now.agent meant.now.controller meant.now.bits in
-        IfOk result (λ found. found.items ≡ with_places test (records_of table.now handle guid)) }
-{
-    let mine = table.list(handle, guid)?;
-    meant_among(alloc, mine.as_slice(), meant)
-}
-
-/// A list of one record with its place.
-fn only(alloc: Global, place: u32, rec: Rec) -> Result<Vec<(u32, Rec)>, OutOfMemory>
-    ensures { IfOk result (λ found. found.items ≡ (place, rec) ∷ []) }
-{
-    let mut found = Vec::new(alloc);
-    found.push((place, rec))?;
-    Ok(found)
-}
-
-/// Those of an interface's records that are meant, each with its place. Walks over the records only if more
-/// than one is.
+/// The same, of an interface's records as they stand.
 pub fn meant_in(
     alloc: Global,
     table: &Table,
@@ -71,17 +48,17 @@ pub fn meant_in(
     ensures { let test = is_meant meant.now.agent meant.now.controller meant.now.bits in
         IfOk result (λ found. found.items ≡ with_places test (records_of table.now handle guid)) }
 {
-    match table.going(handle, guid, meant) {
-        Going::Nothing => Ok(Vec::new(alloc)),
-        Going::One(place, rec) => only(alloc, place, rec),
-        Going::Many => meant_listed(alloc, table, handle, guid, meant),
+    if !table.has_meant(handle, guid, meant) {
+        return Ok(Vec::new(alloc));
     }
+    let mine = table.list(handle, guid)?;
+    meant_among(alloc, mine.as_slice(), meant)
 }
 
 /// Puts those of an interface's records that a choice picks after others, each with its interface and its
 /// place.
-fn push_gone(
-    found: &mut Vec<Gone>,
+fn push_placed(
+    found: &mut Vec<Placed>,
     handle: Handle,
     guid: Guid,
     mine: &[Rec],
@@ -105,7 +82,7 @@ fn push_gone(
 
 /// The same, of the interface's records as they stand.
 fn push_listed(
-    found: &mut Vec<Gone>,
+    found: &mut Vec<Placed>,
     table: &Table,
     choice: &Choice,
     handle: Handle,
@@ -115,39 +92,15 @@ fn push_listed(
     ensures { OnOk result (found.new.items ≡ found.old.items ++ places_on handle guid (picks choice.now) (records_of table.now handle guid)) }
 {
     let mine = table.list(handle, guid)?;
-    push_gone(found, handle, guid, mine.as_slice(), choice)
-}
-
-/// The same, with a walk over the records only if more than one may be picked.
-fn push_picked(
-    found: &mut Vec<Gone>,
-    table: &Table,
-    choice: &Choice,
-    handle: Handle,
-    guid: Guid,
-) -> Result<(), OutOfMemory>
-    requires { length table.now < 2 ^ 32 }
-    ensures { OnOk result (found.new.items ≡ found.old.items ++ places_on handle guid (picks choice.now) (records_of table.now handle guid)) }
-{
-    let Some(meant) = choice.meant_on(handle, guid) else {
-        return push_listed(found, table, choice, handle, guid);
-    };
-    match table.going(handle, guid, &meant) {
-        Going::Nothing => Ok(()),
-        Going::One(place, rec) => {
-            found.push((handle, guid, place, rec))?;
-            Ok(())
-        }
-        Going::Many => push_listed(found, table, choice, handle, guid),
-    }
+    push_placed(found, handle, guid, mine.as_slice(), choice)
 }
 
 /// The records that a choice picks, each with its interface and its place among the records of that
 /// interface.
-pub fn gone_in(alloc: Global, table: &Table, choice: &Choice) -> Result<Vec<Gone>, OutOfMemory>
+pub fn placed_in(alloc: Global, table: &Table, choice: &Choice) -> Result<Vec<Placed>, OutOfMemory>
     requires rising { rise table.now ≡ true }
     requires few { length table.now < 2 ^ 32 }
-    ensures { IfOk result (λ found. found.items ≡ gone_by (picks choice.now) table.now) }
+    ensures { IfOk result (λ found. found.items ≡ placed_by (picks choice.now) table.now) }
 {
     let mut found = Vec::new(alloc);
     let mut at = table.first();
@@ -156,7 +109,7 @@ pub fn gone_in(alloc: Global, table: &Table, choice: &Choice) -> Result<Vec<Gone
             return Ok(found);
         };
         let (handle, guid) = interface;
-        push_picked(&mut found, table, choice, handle, guid)?;
+        push_listed(&mut found, table, choice, handle, guid)?;
         at = table.after(handle, guid);
     }
     Ok(found)

@@ -1,7 +1,7 @@
 //! Laws of the records' single changes, over the definitions alone. Each is the contract of a function
 //! without code.
 
-ghost use Rattle.open_records.specs.PuttingBack.{CountingIsUndoing, PuttingBackIsUndoing};
+ghost use Rattle.open_records.specs.PuttingBack.{CountingIsUndoing};
 ghost use Rattle.open_records.specs.Laws.{AddedHere, AddedNotElsewhere, AddingKeeps, AllCut, CutHere, CutNotElsewhere, CutOnHere, CutOnNotElsewhere, CuttingKeeps, CuttingOnKeeps, NoEqualRecords, NoneNamed, OneHolder, SweepingKeeps, SweptEverywhere, SweptPlaces};
 
 /// An interface of a sound table has at most one record with BY_DRIVER or EXCLUSIVE, and no two records of
@@ -39,9 +39,8 @@ pub fn records_go()
     ensures places { SweptPlaces }
 {}
 
-/// A removal is taken back by putting the records back that went, and an open by setting the count
-/// of before.
+/// An open is taken back by setting the count of before. Of records that are taken out `Records::take` says
+/// itself that they are put back.
 pub fn changes_are_undone()
-    ensures putting { PuttingBackIsUndoing }
     ensures counting { CountingIsUndoing }
 {}

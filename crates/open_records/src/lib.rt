@@ -7,9 +7,7 @@
 //! those of the list that are of it. `judge` says whether one more open is entered, and if it has to wait,
 //! which driver has to be disconnected first.
 //!
-//! The records stand under keys, with indexes by what they are and by the handles that they name (`store`,
-//! `indexes`). Each interface has the list of its keys in order of their making (`lists`). `table` joins the
-//! two, and above it no key is seen.
+//! All records stand in a table (`record_table`), in which each interface has those of its own as one value.
 #![tactic(auto)]
 
 mod adding;
@@ -17,27 +15,24 @@ mod choices;
 mod fault;
 mod finding;
 mod found;
-mod going;
-mod indexes;
 mod laws;
-mod lists;
+mod leaving;
 mod managing;
-mod open_record;
 mod records;
 mod removal;
-mod store;
-mod table;
-mod taking;
+mod telling;
 mod undoing;
 mod uses;
 mod verdict;
 mod walking;
 
 pub use fault::RecFault;
+pub use interface_records::Rec;
 pub use laws::{
     changes_are_undone, changes_keep, interfaces_change, records_go, records_stand_apart,
 };
-pub use open_record::{KeyedRecord, Rec};
+pub use parted_records::Removed;
+pub use record_table::KeyedRecord;
 pub use records::Records;
 pub use undoing::{Choice, Gone};
 pub use verdict::{Verdict, judge};

@@ -1,14 +1,17 @@
 //! The children of a handle, and the agents that manage it.
-ghost use Rattle.std.specs.Prelude.{◌≡◌, true, IfOk, OnOk};
+ghost use Rattle.std.specs.Prelude.{◌≡◌, None, Some, true, IfOk, OnOk, find, option_map, if◌then◌else◌};
 ghost use Rattle.std.specs.Option.{option_to_list};
-ghost use Rattle.open_records.specs.OpenRecords.{records_of, stand_apart};
-ghost use Rattle.open_records.specs.Managing.{child_numbers, manager_numbers, once_each, records_on};
+ghost use Rattle.record_table.specs.Keyed.{records_of};
+ghost use Rattle.open_records.specs.OpenRecords.{stand_apart};
+ghost use Rattle.open_records.specs.Leaving.{fits};
+ghost use Rattle.open_records.specs.Managing.{child_numbers, is_child, is_managing, manager_numbers, once_each, records_on};
 ghost use Rattle.open_records.specs.Places.{joined, with_number};
+ghost use Rattle.interface_records.specs.declared.open_record.Rec.{Rec as RecValue};
 
 use crate::found::Found;
-use crate::open_record::Rec;
-use crate::table::Table;
 use fw_types::{Attr, Guid, Handle, OutOfMemory};
+use interface_records::Rec;
+use record_table::Table;
 use std::alloc::Global;
 
 /// The children of a handle, by the protocols of the handle.
@@ -48,8 +51,26 @@ pub fn managers_on(
     Ok(found)
 }
 
-/// Puts the children on an interface after others, if they are new. Walks over the interface's records only if
-/// one of them is BY_CHILD_CONTROLLER.
+/// The agent that manages a handle by one of its interfaces. A record with BY_DRIVER is the only one of its
+/// interface that has BY_DRIVER or EXCLUSIVE.
+pub fn manager_on(table: &Table, handle: Handle, guid: Guid) -> Option<u64>
+    requires { stand_apart table.now ≡ true }
+    ensures { let records = records_of table.now handle guid in
+        result ≡ option_map (λ (rec : RecValue). rec.agent) (find is_managing records) }
+{
+    match table.holder(handle, guid) {
+        Some(rec) => {
+            if is_managing(&rec) {
+                Some(rec.agent)
+            } else {
+                None
+            }
+        }
+        None => None,
+    }
+}
+
+/// Puts the children on an interface after others, if they are new.
 fn add_children_on(
     found: &mut Found,
     table: &Table,
@@ -60,11 +81,8 @@ fn add_children_on(
     ensures { let records = records_of table.now handle guid in
         OnOk result (found.new ≡ joined found.old (child_numbers agent records)) }
 {
-    if !table.has_attr(handle, guid, Attr::BY_CHILD_CONTROLLER) {
-        return Ok(());
-    }
-    let mine = table.list(handle, guid)?;
-    add_children(found, mine.as_slice(), agent)
+    let children = table.children(handle, guid)?;
+    add_children(found, children.as_slice(), agent)
 }
 
 /// Puts the children that an interface's records name after others, if they are new.
@@ -72,7 +90,7 @@ fn add_children(found: &mut Found, mine: &[Rec], agent: Option<u64>) -> Result<(
     ensures { OnOk result (found.new ≡ joined found.old (child_numbers agent mine.now)) }
 {
     for rec in mine {
-        if let Some(child) = rec.child_of(agent) {
+        if let Some(child) = child_of(rec, agent) {
             found.add(child)?;
         }
     }
@@ -85,7 +103,7 @@ fn add_manager(found: &mut Vec<u64>, holder: Option<Rec>) -> Result<(), OutOfMem
 {
     match holder {
         Some(rec) => {
-            if rec.is_managing() {
+            if is_managing(&rec) {
                 add_number(found, rec.agent)
             } else {
                 Ok(())
@@ -103,4 +121,32 @@ fn add_number(found: &mut Vec<u64>, number: u64) -> Result<(), OutOfMemory>
         found.push(number)?;
     }
     Ok(())
+}
+
+/// The child that a record names, if it is a BY_CHILD_CONTROLLER record, of an agent if one is given.
+fn child_of(rec: &Rec, agent: Option<u64>) -> Option<Handle>
+    ensures { result ≡ (if is_child agent rec.now then Some rec.now.controller else None) }
+{
+    if rec.attr.bits() == Attr::BY_CHILD_CONTROLLER && fits(agent, rec.agent) {
+        Handle::new(rec.controller)
+    } else {
+        None
+    }
+}
+
+/// Whether a record has BY_DRIVER, so that its agent manages the controller.
+fn is_managing(rec: &Rec) -> bool
+    ensures { result ≡ is_managing rec.now }
+{
+    rec.attr.has_bit_of(Attr::BY_DRIVER)
+}
+
+/// Whether a number is the one that is given, if one is.
+fn fits(given: Option<u64>, number: u64) -> bool
+    ensures { result ≡ fits given number }
+{
+    match given {
+        None => true,
+        Some(wanted) => number == wanted,
+    }
 }

@@ -1,26 +1,30 @@
-ghost use Rattle.std.specs.Prelude.{◌≡◌, ◌≤◌, [], true, IfOk, OnOk, OnErr, length};
+ghost use Rattle.std.specs.Prelude.{◌≡◌, ◌≤◌, [], true, IfOk, OnOk, OnErr, find, length, option_map};
 ghost use Rattle.std.specs.List.{list_any};
 ghost use Rattle.open_records.specs.Adding.{Gives, added, is_full};
 ghost use Rattle.open_records.specs.Leaving.{cut, cut_on, is_meant, naming, with_places, swept};
-ghost use Rattle.open_records.specs.Managing.{children, managers};
-ghost use Rattle.open_records.specs.OpenRecords.{IsSound, records_of};
+ghost use Rattle.open_records.specs.Managing.{children, is_managing, managers};
+ghost use Rattle.open_records.specs.OpenRecords.{IsSound};
+ghost use Rattle.record_table.specs.Keyed.{records_of};
 ghost use Rattle.open_records.specs.Parties.{has_use_of, with_live_parties, without_agents_of};
-ghost use Rattle.open_records.specs.PuttingBack.{count_of, count_set, gone_by, picks, put_back, without_passing};
+ghost use Rattle.open_records.specs.PuttingBack.{AreFitting, count_of, count_set, picks, put_back, without_passing};
 ghost use Rattle.open_records.specs.Verdicts.{judge, may_enter};
+ghost use Rattle.interface_records.specs.declared.open_record.Rec.{Rec as RecValue};
 
 use crate::adding::enter;
-use crate::choices::{AgentsOf, Dead, Meant};
+use crate::choices::{AgentsOf, Dead};
 use crate::fault::RecFault;
-use crate::finding::{gone_in, meant_in};
-use crate::managing::{children_on, managers_on};
-use crate::open_record::Rec;
+use crate::finding::{Placed, meant_in, placed_in};
+use crate::leaving::take_picked;
+use crate::managing::{children_on, manager_on, managers_on};
 use crate::removal::{drop_all, drop_picked};
-use crate::table::Table;
+use crate::telling::make_ready;
 use crate::undoing::{Choice, Gone, put_all};
 use crate::uses::any_use_of;
 use crate::verdict::{Verdict, verdict_of};
 use fw_types::{Attr, Guid, Handle, OutOfMemory};
 use handle_db::Db;
+use interface_records::{Meant, Rec};
+use record_table::Table;
 use std::alloc::Global;
 use std::marker::Model;
 use std::mem;
@@ -145,29 +149,34 @@ impl Records {
     /// # Errors
     ///
     /// `OutOfMemory` if there is no memory for the list. The records are then as before.
-    pub fn sweep(&mut self, name: Handle) -> Result<Vec<(Handle, Guid, u32, Rec)>, OutOfMemory>
+    pub fn sweep(&mut self, name: Handle) -> Result<Vec<Placed>, OutOfMemory>
         ensures list { IfOk result (λ list. list.items ≡ naming name self.old.entries) }
         ensures ok { OnOk result (self.new ≡ swept name self.old) }
         ensures err { OnErr result (self.new ≡ self.old) }
     {
-        let list = gone_in(self.alloc, &self.table, &Choice::Naming { name })?;
+        self.table.forget(name);
+        let list = placed_in(self.alloc, &self.table, &Choice::Naming { name })?;
         drop_picked(&mut self.table, &Choice::Naming { name });
         Ok(list)
     }
 
-    /// Removes the records that are chosen, and answers them: by handle, then by GUID, then by place.
+    /// Takes out the records that are chosen, and answers them. `put_back` puts them back. If they are those of an
+    /// interface with BY_HANDLE_PROTOCOL, GET_PROTOCOL or TEST_PROTOCOL, they can go and come back as one value,
+    /// however many they are.
     ///
     /// # Errors
     ///
     /// `OutOfMemory` if there is no memory for the list. The records are then as before.
     pub fn take(&mut self, choice: &Choice) -> Result<Vec<Gone>, OutOfMemory>
-        ensures gone { IfOk result (λ gone. gone.items ≡ gone_by (picks choice.now) self.old.entries) }
         ensures ok { OnOk result (self.new ≡ without_passing (picks choice.now) self.old) }
+        ensures back { IfOk result (λ gone. put_back gone.items self.new ≡ self.old) }
+        ensures fit { IfOk result (λ gone. AreFitting gone.items self.new.entries) }
         ensures err { OnErr result (self.new ≡ self.old) }
     {
-        let gone = gone_in(self.alloc, &self.table, choice)?;
-        drop_picked(&mut self.table, choice);
-        Ok(gone)
+        // reading the limit shows that it fits in 32 bits
+        let _most = self.limit;
+        make_ready(&mut self.table, choice);
+        take_picked(self.alloc, &mut self.table, choice)
     }
 
     /// Puts records back that `take` answered, before any other change. The table is then sound.
@@ -175,10 +184,13 @@ impl Records {
     /// # Errors
     ///
     /// `OutOfMemory` if there is no memory. All records are then given up.
-    pub fn put_back(&mut self, gone: &[Gone]) -> Result<(), OutOfMemory>
-        requires { IsSound (put_back gone.now self.old) }
-        ensures { OnOk result (self.new ≡ put_back gone.now self.old) }
+    pub fn put_back(&mut self, gone: Vec<Gone>) -> Result<(), OutOfMemory>
+        requires sound { IsSound (put_back gone.items self.old) }
+        requires fit { AreFitting gone.items self.old.entries }
+        ensures { OnOk result (self.new ≡ put_back gone.items self.old) }
     {
+        // reading the limit shows that it fits in 32 bits
+        let _most = self.limit;
         let mut table = mem::replace(&mut self.table, Table::new(self.alloc));
         put_all(&mut table, gone)?;
         self.table = table;
@@ -209,7 +221,7 @@ impl Records {
     {
         let table = &mut self.table;
         if count == 0 {
-            table.drop_equal(handle, guid, agent, controller, attr);
+            table.take(handle, guid, (agent, controller, attr.bits()));
             return;
         }
         table.recount(handle, guid, agent, controller, attr, count);
@@ -405,6 +417,23 @@ impl Records {
     {
         let protocols = db.protocols_of(handle)?;
         managers_on(self.alloc, &self.table, handle, protocols.as_slice())
+    }
+
+    /// The agent that manages a handle by one of its interfaces: that of the interface's record with
+    /// BY_DRIVER, if there is one. Takes no memory.
+    pub fn manager_on(&self, handle: Handle, guid: Guid) -> Option<u64>
+        ensures { let records = records_of self.now.entries handle guid in
+            result ≡ option_map (λ (rec : RecValue). rec.agent) (find is_managing records) }
+    {
+        manager_on(&self.table, handle, guid)
+    }
+
+    /// Changes nothing that can be seen, and gives up memory for records that are no longer there. For a moment
+    /// in which no change can be taken back. Takes no memory.
+    pub fn tidy(&mut self)
+        ensures { self.new ≡ self.old }
+    {
+        self.table.tidy();
     }
 
     /// Says what holds of all records and does nothing: their interfaces rise; an interface has at most one

@@ -1,14 +1,11 @@
 //! Records that go, interface by interface.
-ghost use Rattle.std.specs.Prelude.{◌≡◌, ◌&&◌, filter, not};
-ghost use Rattle.open_records.specs.OpenRecords.{is_of};
+ghost use Rattle.std.specs.Prelude.{◌≡◌, filter, not};
 ghost use Rattle.open_records.specs.PuttingBack.{picks};
-ghost use Rattle.open_records.specs.declared.open_record.KeyedRecord.{KeyedRecord as KeyedValue};
+ghost use Rattle.record_table.specs.declared.open_record.KeyedRecord.{KeyedRecord as KeyedValue};
 
-use crate::choices::Test;
-use crate::table::Table;
 use crate::undoing::Choice;
 use crate::walking::next_of;
-use fw_types::{Guid, Handle};
+use record_table::{Table, Test};
 
 /// Removes the records that pass a test. Looks at all records.
 pub fn drop_all<T: Test>(table: &mut Table, test: &T)
@@ -22,17 +19,6 @@ pub fn drop_all<T: Test>(table: &mut Table, test: &T)
     }
 }
 
-/// Removes those of an interface's records that a choice picks.
-fn drop_on(table: &mut Table, choice: &Choice, handle: Handle, guid: Guid)
-    ensures { let goes = λ (one : KeyedValue). is_of handle guid one && picks choice.now one in
-        table.new ≡ filter (λ (one : KeyedValue). not (goes one)) table.old }
-{
-    match choice.meant_on(handle, guid) {
-        None => table.drop_where(handle, guid, choice),
-        Some(meant) => table.drop_meant(handle, guid, &meant),
-    }
-}
-
 /// Removes the records that a choice picks.
 pub fn drop_picked(table: &mut Table, choice: &Choice)
     ensures { table.new ≡ filter (λ (one : KeyedValue). not (picks choice.now one)) table.old }
@@ -43,7 +29,7 @@ pub fn drop_picked(table: &mut Table, choice: &Choice)
             return;
         };
         let (handle, guid) = interface;
-        drop_on(table, choice, handle, guid);
+        table.drop_where(handle, guid, choice);
         at = table.after(handle, guid);
     }
 }

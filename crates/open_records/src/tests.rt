@@ -252,11 +252,13 @@ fn sweeping_in(rt: &impl Abort, records: &mut Records) -> Result<(), Fail> {
 }
 
 /// Takes records away, puts them back, and answers how many they were.
-fn there_and_back(records: &mut Records, choice: &Choice) -> Result<usize, OutOfMemory> {
+fn there_and_back(records: &mut Records, choice: &Choice) -> Result<u32, OutOfMemory> {
     records.soundness();
+    let before = records.len();
     let gone = records.take(choice)?;
-    records.put_back(gone.as_slice())?;
-    Ok(gone.len())
+    let left = records.len();
+    records.put_back(gone)?;
+    Ok(before.saturating_sub(left))
 }
 
 /// The choice of a handle's second protocol, by agent and controller if they are given.
@@ -270,6 +272,36 @@ fn of_interface(handle: Handle, agent: Option<u64>, controller: Option<u64>) -> 
     }
 }
 
+/// The choice of the weak records of a handle's second protocol.
+fn weak_of(handle: Handle) -> Choice {
+    Choice::OfInterface {
+        handle,
+        guid: guid(2),
+        agent: None,
+        controller: None,
+        bits: Attr::WEAK_BITS,
+    }
+}
+
+/// The choice of a handle's records that are of an agent, if one is given.
+fn on_handle(handle: Handle, agent: Option<u64>) -> Choice {
+    Choice::OnHandle {
+        handle,
+        agent,
+        controller: None,
+        bits: Attr::ALL_BITS,
+    }
+}
+
+/// The choice of all records of a handle's second protocol, and of those that name the handle.
+fn with_handle(handle: Handle) -> Choice {
+    Choice::WithInterface {
+        handle,
+        guid: guid(2),
+        gone: true,
+    }
+}
+
 /// How many records each choice takes away, and that they are put back.
 #[test]
 fn putting_back(rt: HostRuntime) -> Result<(), Fail> {
@@ -279,13 +311,16 @@ fn putting_back(rt: HostRuntime) -> Result<(), Fail> {
 
 fn putting_back_in(rt: &impl Abort, records: &mut Records) -> Result<(), Fail> {
     let (four, six) = (handle(rt, 4), handle(rt, 6));
-    let cases: [(Choice, usize); 6] = [
+    let cases: [(Choice, u32); 9] = [
         (of_interface(four, None, None), 4),
+        (weak_of(four), 1),
         (of_interface(four, Some(6), None), 3),
         (of_interface(four, Some(6), Some(4)), 2),
         (of_interface(four, Some(5), Some(7)), 1),
         (of_interface(four, Some(5), Some(6)), 0),
         (Choice::Naming { name: six }, 5),
+        (on_handle(four, Some(6)), 4),
+        (with_handle(four), 6),
     ];
     let before = records.list(four, guid(2))?;
     for (choice, count) in cases {
@@ -379,6 +414,46 @@ fn closing_many_in(rt: &impl Abort, records: &mut Records) -> Result<(), Fail> {
         )?;
     }
     assert_eq!(rt; records.len(), 0);
+    Ok(())
+}
+
+/// Takes out one record after another of an interface with 60,000.
+#[test]
+fn taking_many(rt: HostRuntime) -> Result<(), Fail> {
+    let mut records = Records::new(rt.alloc(), MOST_RECORDS);
+    taking_many_in(&rt, &mut records)
+}
+
+fn taking_many_in(rt: &impl Abort, records: &mut Records) -> Result<(), Fail> {
+    for agent in 1..60_001 {
+        open(rt, records, (3, 2), (agent, 7, 0x02))?;
+    }
+    let on = handle(rt, 3);
+    for agent in 1..60_001 {
+        let gone = records.take(&of_interface(on, Some(agent), None))?;
+        assert_eq!(rt; gone.len(), 1);
+    }
+    assert_eq!(rt; records.len(), 0);
+    Ok(())
+}
+
+/// The weak ones of 60,000 records beside one that stays go and come back, many times.
+#[test]
+fn weak_many(rt: HostRuntime) -> Result<(), Fail> {
+    let mut records = Records::new(rt.alloc(), MOST_RECORDS);
+    weak_many_in(&rt, &mut records)
+}
+
+fn weak_many_in(rt: &impl Abort, records: &mut Records) -> Result<(), Fail> {
+    for agent in 1..60_001 {
+        open(rt, records, (3, 2), (agent, 7, 0x02))?;
+    }
+    open(rt, records, (3, 2), (8, 7, 0x08))?;
+    let choice = weak_of(handle(rt, 3));
+    for _ in 0..100_000 {
+        assert_eq!(rt; there_and_back(records, &choice)?, 60_000);
+    }
+    assert_eq!(rt; records.len(), 60_001);
     Ok(())
 }
 

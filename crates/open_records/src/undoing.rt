@@ -1,17 +1,24 @@
-//! Records that go, as a list of what went, and records that are put back.
-ghost use Rattle.std.specs.Prelude.{◌≡◌, true, OnOk, IfSome};
-ghost use Rattle.open_records.specs.Asking.{PicksMeant};
-ghost use Rattle.open_records.specs.OpenRecords.{rise, stand_apart};
-ghost use Rattle.open_records.specs.PuttingBack.{picks, put_all as all_put, put_one as one_put};
+//! Which records go, and records that went and are put back.
+ghost use Rattle.std.specs.Prelude.{◌≡◌, ◌<◌, ◌^◌, length, nat_eq, true, OnOk, IfSome};
+ghost use Rattle.open_records.specs.Asking.{Asks};
+ghost use Rattle.open_records.specs.Going.{PicksWeak};
+ghost use Rattle.record_table.specs.Keyed.{is_same, rise};
+ghost use Rattle.open_records.specs.OpenRecords.{stand_apart};
+ghost use Rattle.open_records.specs.PuttingBack.{AreFitting, IsFitting, picks, put_all as all_put, put_one as one_put};
 
-use crate::choices::{Meant, Test};
-use crate::open_record::{KeyedRecord, Rec};
-use crate::table::Table;
-use fw_types::{Guid, Handle, OutOfMemory};
+use fw_types::{Attr, Guid, Handle, OutOfMemory};
+use interface_records::{InterfaceRecords, Meant};
+use parted_records::Removed;
+use record_table::{Interface, KeyedRecord, Table, Test};
 
-/// A record that went: the handle and the GUID of its interface, the place, from 0, that it had among the
-/// records of that interface, and what it was.
-pub type Gone = (Handle, Guid, u32, Rec);
+/// What went: the handle and the GUID of an interface, and what it had.
+#[derive(Drop)]
+pub enum Gone {
+    /// One of its records, as it was taken out of them.
+    One(Handle, Guid, Removed),
+    /// Its weak records, as one value with those that stayed.
+    Weak(Handle, Guid, InterfaceRecords),
+}
 
 /// Which records go.
 #[derive(Clone, Copy, Debug)]
@@ -69,25 +76,25 @@ impl Choice {
                 agent,
                 controller,
                 bits,
-            } => one.is_of(*handle, *guid) && one.rec.is_meant(*agent, *controller, *bits),
+            } => one.is_of(*handle, *guid) && one.is_meant(*agent, *controller, *bits),
             Choice::OnHandle {
                 handle,
                 agent,
                 controller,
                 bits,
-            } => one.handle == *handle && one.rec.is_meant(*agent, *controller, *bits),
+            } => one.handle == *handle && one.is_meant(*agent, *controller, *bits),
             Choice::WithInterface { handle, guid, gone } => {
-                one.goes_with(*handle, *guid) || (*gone && one.rec.is_named(handle.get()))
+                one.goes_with(*handle, *guid) || (*gone && one.is_named(handle.get()))
             }
-            Choice::Naming { name } => one.rec.is_named(name.get()),
+            Choice::Naming { name } => one.is_named(name.get()),
         }
     }
 }
 
 impl Choice {
-    /// Which of an interface's records it picks, if that is said by agent, controller and bits.
-    pub(crate) fn meant_on(&self, owner: Handle, protocol: Guid) -> Option<Meant>
-        ensures { IfSome result (λ meant. PicksMeant owner protocol meant self.now) }
+    /// What it picks of an interface's records: those that are meant, and those that name a handle.
+    pub(crate) fn asks(&self, owner: Handle, protocol: Guid) -> (Option<Meant>, Option<u64>)
+        ensures { Asks (owner, protocol) result self.now }
     {
         match self {
             Choice::OfInterface {
@@ -97,15 +104,13 @@ impl Choice {
                 controller,
                 bits,
             } => {
-                if *handle == owner && *guid == protocol {
-                    Some(Meant {
-                        agent: *agent,
-                        controller: *controller,
-                        bits: *bits,
-                    })
-                } else {
-                    None
-                }
+                let meant = Meant {
+                    agent: *agent,
+                    controller: *controller,
+                    bits: *bits,
+                };
+                let here = is_same(owner, protocol, *handle, *guid);
+                (here.then_some(meant), None)
             }
             Choice::OnHandle {
                 handle,
@@ -113,19 +118,64 @@ impl Choice {
                 controller,
                 bits,
             } => {
-                if *handle == owner {
-                    Some(Meant {
-                        agent: *agent,
-                        controller: *controller,
-                        bits: *bits,
-                    })
+                let meant = Meant {
+                    agent: *agent,
+                    controller: *controller,
+                    bits: *bits,
+                };
+                let here = is_same_handle(owner, *handle);
+                (here.then_some(meant), None)
+            }
+            Choice::WithInterface { handle, guid, gone } => {
+                let all = Meant {
+                    agent: None,
+                    controller: None,
+                    bits: Attr::ALL_BITS,
+                };
+                let here = is_same(owner, protocol, *handle, *guid);
+                (here.then_some(all), gone.then_some(handle.get()))
+            }
+            Choice::Naming { name } => (None, Some(name.get())),
+        }
+    }
+}
+
+impl Choice {
+    /// An interface, if it picks the weak records of it, and no others.
+    pub(crate) fn weak_of(&self) -> Option<Interface>
+        ensures { IfSome result (λ interface. PicksWeak interface self.now) }
+    {
+        match self {
+            Choice::OfInterface {
+                handle,
+                guid,
+                agent: None,
+                controller: None,
+                bits,
+            } => {
+                if *bits == Attr::WEAK_BITS {
+                    Some((*handle, *guid))
                 } else {
                     None
                 }
             }
-            Choice::WithInterface { .. } | Choice::Naming { .. } => None,
+            _ => None,
         }
     }
+}
+
+/// Whether two handles are the same.
+fn is_same_handle(handle: Handle, other: Handle) -> bool
+    ensures { result ≡ nat_eq handle other }
+{
+    handle == other
+}
+
+/// Whether two interfaces are the same.
+fn is_same(handle: Handle, guid: Guid, other: Handle, protocol: Guid) -> bool
+    ensures { result ≡ is_same handle guid other protocol }
+{
+    handle == other && guid == protocol
 }
 
 impl Test for Choice {
@@ -136,28 +186,30 @@ impl Test for Choice {
     }
 }
 
-/// Puts a record back at its place among those of its interface.
-fn put_one(table: &mut Table, gone: &Gone) -> Result<(), OutOfMemory>
+/// Puts back what went one after another, the last one first.
+pub fn put_all(table: &mut Table, mut gone: Vec<Gone>) -> Result<(), OutOfMemory>
     requires rising { rise table.old ≡ true }
-    requires apart { stand_apart (one_put gone.now table.old) ≡ true }
-    ensures { OnOk result (table.new ≡ one_put gone.now table.old) }
+    requires fit { AreFitting gone.items table.old }
+    requires apart { stand_apart (all_put gone.items table.old) ≡ true }
+    requires few { length (all_put gone.items table.old) < 2 ^ 32 }
+    ensures { OnOk result (table.new ≡ all_put gone.items table.old) }
 {
-    let one = KeyedRecord {
-        handle: gone.0,
-        guid: gone.1,
-        rec: gone.3,
-    };
-    table.put(gone.2 as usize, one)
-}
-
-/// Puts records back, one after the other.
-pub fn put_all(table: &mut Table, gone: &[Gone]) -> Result<(), OutOfMemory>
-    requires rising { rise table.old ≡ true }
-    requires apart { stand_apart (all_put gone.now table.old) ≡ true }
-    ensures { OnOk result (table.new ≡ all_put gone.now table.old) }
-{
-    for one in gone {
-        put_one(table, one)?;
+    'back: while let Some(last) = gone.pop() {
+        put_one(table, last)?;
     }
     Ok(())
+}
+
+/// Puts back one record, or the weak records of an interface.
+fn put_one(table: &mut Table, gone: Gone) -> Result<(), OutOfMemory>
+    requires rising { rise table.old ≡ true }
+    requires fit { IsFitting gone table.old }
+    requires apart { stand_apart (one_put gone table.old) ≡ true }
+    requires few { length (one_put gone table.old) < 2 ^ 32 }
+    ensures { OnOk result (table.new ≡ one_put gone table.old) }
+{
+    match gone {
+        Gone::One(handle, guid, removed) => table.put(handle, guid, &removed),
+        Gone::Weak(handle, guid, whole) => table.put_weak(handle, guid, whole),
+    }
 }

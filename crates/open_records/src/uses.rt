@@ -4,9 +4,9 @@ ghost use Rattle.std.specs.List.{list_any};
 ghost use Rattle.open_records.specs.Parties.{is_use_of};
 
 use crate::choices::UsesOf;
-use crate::table::Table;
 use fw_types::{Guid, Handle};
 use handle_db::Db;
+use record_table::Table;
 
 /// Whether one of the records is a use of an image.
 pub fn any_use_of(table: &Table, image: Handle, guid: Guid, db: &Db) -> bool

@@ -4,8 +4,8 @@ ghost use Rattle.fw_types.specs.Attr.{has_bit_of};
 ghost use Rattle.open_records.specs.OpenRecords.{is_equal, is_strong};
 ghost use Rattle.open_records.specs.Verdicts.{against, judge, may_enter};
 
-use crate::open_record::Rec;
 use fw_types::Attr;
+use interface_records::Rec;
 
 /// What the records of an interface say to one more open.
 #[derive(Clone, Copy, Debug, PartialEq, Eq)]
@@ -113,5 +113,13 @@ fn strong_in(list: &[Rec]) -> Option<Rec>
 fn equal_in(list: &[Rec], agent: u64, controller: u64, attr: Attr) -> bool
     ensures { result ≡ list_any (is_equal agent controller attr) list.now }
 {
-    list.iter().any(|rec| rec.is_equal(agent, controller, attr))
+    list.iter()
+        .any(|rec| is_equal(rec, agent, controller, attr))
+}
+
+/// Whether a record is of an agent for a controller with an attribute.
+fn is_equal(rec: &Rec, agent: u64, controller: u64, attr: Attr) -> bool
+    ensures { result ≡ is_equal agent controller attr rec.now }
+{
+    rec.agent == agent && rec.controller == controller && rec.attr == attr
 }

@@ -157,7 +157,7 @@ without_none (newest ∷ older) is =
     let empty : newest.changes ≡ [] = none newest.changes is in
     ap (λ (changes : List Change). record newest { changes = changes } ∷ older) (ap (drop 1) empty ∙ sym empty)
 
--- where something was, a mark is open, and what it keeps is no matter of the soft part now
+-- where something was noted, a mark is open, and what it keeps is asked for, not the soft part now
 pub newest_stays : (marks : List (Section Change Moment)) (kept : List Soft) (change : Change) (soft a b : Soft) → kept_from [] marks soft ≡ kept → last_change marks ≡ Some change → newest_of kept a ≡ newest_of kept b
 unfolding kept_from
 newest_stays [] kept change soft a b are is = absurd cc

@@ -1,6 +1,6 @@
 use world_model::StackLevels;
 
-/// What a mark carries: what stood as it was made.
+/// What a mark carries: what was there when it was made.
 #[derive(Clone, Copy)]
 pub struct Moment {
     /// Which levels had a stack.

@@ -447,6 +447,14 @@ impl SoftLog {
         Ok(before.saturating_sub(left))
     }
 
+    /// Changes nothing that can be seen, and gives up memory for open records that are no longer there.
+    /// For a moment in which no mark is open. Takes no memory.
+    pub fn tidy(&mut self)
+        ensures { self.new ≡ self.old }
+    {
+        self.soft.tidy();
+    }
+
     // ---- images
 
     /// Removes an image with its loaded image block, its interface with the records, and its thunks.

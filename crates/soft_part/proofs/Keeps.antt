@@ -18,7 +18,7 @@ use Rattle.handle_db.specs.Database.{Database, Gives, interface_of, interfaces_i
 use Rattle.fw_types.specs.Attr.{is_legal}
 use Rattle.open_records.specs.declared.fault.RecFault.{RecFault}
 use Rattle.open_records.specs.OpenRecords.{RecordTable, records_of}
-use Rattle.open_records.specs.declared.open_record.KeyedRecord.{KeyedRecord}
+use Rattle.record_table.specs.declared.open_record.KeyedRecord.{KeyedRecord}
 use Rattle.open_records.specs.declared.undoing.Choice.{Choice}
 use Rattle.open_records.specs.PuttingBack.{picks, without_passing}
 use Rattle.open_records.specs.Adding.{Gives as GivesRecord, added, is_full as is_table_full}

@@ -6,8 +6,6 @@ ghost use Rattle.guest_memory.specs.GuestMemory.{beginning_at, lie_from, mapped,
 ghost use Rattle.fw_types.specs.Guid.{known_guid};
 ghost use Rattle.fw_types.specs.declared.guid.Known.TheVariants.{LoadedImage as LoadedImageProtocol};
 ghost use Rattle.handle_db.specs.Undoing.{HasRoomFor, remove_undone};
-ghost use Rattle.open_records.specs.OpenRecords.{IsSound as RecordsAreSound};
-ghost use Rattle.open_records.specs.PuttingBack.{put_back};
 ghost use Rattle.world_model.specs.Images.{image_from, image_of as image_found, without_image};
 ghost use Rattle.world_model.specs.Thunks.{enters, without_thunks};
 ghost use Rattle.world_model.specs.Undo.{with_thunks as with_all};
@@ -18,7 +16,6 @@ use crate::thunks::{drop_from_segment, entering, with_thunks};
 use fw_types::{Guid, Handle, Known, OutOfMemory};
 use guest_memory::{Memory, Segment};
 use handle_db::{Db, Removed};
-use open_records::Records;
 use std::alloc::Global;
 use world_model::{DroppedImage, LoadedImage, Thunk};
 
@@ -68,40 +65,12 @@ pub fn take_image(
     Ok((bytes, block, gone?))
 }
 
-/// Maps an image and its loaded image block again, with its interface, or nothing.
+/// Maps the bytes of an image and its loaded image block again, with its interface, or nothing.
 ///
 /// # Errors
 ///
 /// `OutOfMemory` if there is no memory; all is then as before.
 pub fn remap(
-    memory: &mut Memory,
-    database: &mut Db,
-    dropped: DroppedImage,
-) -> Result<(), OutOfMemory>
-    requires apart { lie_from 0 (mapped dropped.segment (mapped dropped.block memory.old)) ≡ true }
-    requires room { HasRoomFor dropped.image.handle (known_guid LoadedImageProtocol) dropped.removed
-        database.old }
-    ensures memory { OnOk result (memory.new ≡
-        mapped dropped.segment (mapped dropped.block memory.old)) }
-    ensures database { OnOk result (database.new ≡ remove_undone dropped.image.handle
-        (known_guid LoadedImageProtocol) dropped.removed database.old) }
-    ensures memory_before { OnErr result (memory.new ≡ memory.old) }
-    ensures database_before { OnErr result (database.new ≡ database.old) }
-{
-    let handle = dropped.image.handle;
-    let removed = dropped.removed;
-    remap_parts(
-        memory,
-        database,
-        dropped.segment,
-        dropped.block,
-        handle,
-        removed,
-    )
-}
-
-/// The same, of its bytes, its loaded image block and its interface.
-fn remap_parts(
     memory: &mut Memory,
     database: &mut Db,
     segment: Segment,
@@ -165,14 +134,6 @@ pub fn with_thunks_of(
     ensures { IfOk result (λ all. all.items ≡ with_all dropped.now.thunks thunks.now) }
 {
     with_thunks(alloc, thunks, dropped.thunks.as_slice())
-}
-
-/// Puts the records back that went with an image that was dropped.
-pub fn put_records_of(records: &mut Records, dropped: &DroppedImage) -> Result<(), OutOfMemory>
-    requires { RecordsAreSound (put_back dropped.now.gone records.old) }
-    ensures { OnOk result (records.new ≡ put_back dropped.now.gone records.old) }
-{
-    records.put_back(dropped.gone.as_slice())
 }
 
 /// Removes the image of a handle from those that are loaded.

@@ -7,7 +7,7 @@
 //! - `images`: the images that are loaded, and what goes with one and comes back; `image_block`: what a
 //!   loaded image block says of an image; `thunks`: the live thunks, by number and by address.
 //! - `stack`: what a driver call finds on its stack, and the list of children that a Stop is given.
-//! - `opens`: the open records that go with an interface, a handle or an image.
+//! - `opens`: the open records that go with an interface, a handle or an image, and come back.
 //! - `bus_children`: the children of the bus, and the bus lists of the board's functions.
 //! - `tables`, `database`: the memory and the handle database of the opening state.
 //!

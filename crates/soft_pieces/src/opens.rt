@@ -1,12 +1,11 @@
-//! The open records of interfaces, handles and images that go.
-ghost use Rattle.std.specs.Prelude.{◌≡◌, IfOk, not};
-ghost use Rattle.handle_db.specs.Database.{is_live};
-ghost use Rattle.open_records.specs.PuttingBack.{gone_by, picks};
-ghost use Rattle.open_records.specs.declared.undoing.Choice.TheVariants.{WithInterface};
+//! The open records of interfaces, handles and images that go and come back.
+ghost use Rattle.std.specs.Prelude.{◌≡◌, IfOk, OnOk};
+ghost use Rattle.open_records.specs.OpenRecords.{IsSound as RecordsAreSound};
+ghost use Rattle.open_records.specs.PuttingBack.{AreFitting, put_back};
 ghost use Rattle.world_model.specs.ImageSweep.{database_without, records_without};
 ghost use Rattle.world_model.specs.Records.{records_removed};
 
-use fw_types::{Attr, Guid, Handle, Known, OutOfMemory};
+use fw_types::{Attr, Guid, Handle, Known, OutOfMemory, Rows};
 use handle_db::Db;
 use open_records::{Choice, Gone, Records};
 
@@ -22,7 +21,7 @@ fn drop_records(records: &mut Records, db: &Db, handle: Handle, guid: Guid)
     records.drop_naming(handle);
 }
 
-/// The same, and answers the records that went.
+/// The same, and answers what went, which `put_records` puts back.
 ///
 /// # Errors
 ///
@@ -34,8 +33,8 @@ pub fn take_records(
     guid: Guid,
 ) -> Result<Vec<Gone>, OutOfMemory>
     ensures records { records.new ≡ records_removed handle guid db.now records.old }
-    ensures gone { IfOk result (λ gone. gone.items ≡
-        gone_by (picks (WithInterface handle guid (not (is_live handle db.now)))) records.old.entries) }
+    ensures back { IfOk result (λ gone. put_back gone.items records.new ≡ records.old) }
+    ensures fit { IfOk result (λ gone. AreFitting gone.items records.new.entries) }
 {
     let gone = !db.is_live(handle.get());
     let listed = records.take(&Choice::WithInterface { handle, guid, gone });
@@ -43,6 +42,19 @@ pub fn take_records(
         drop_records(records, db, handle, guid);
     }
     listed
+}
+
+/// Puts back what went of the records into those that it left. They are then sound.
+///
+/// # Errors
+///
+/// `OutOfMemory` if there is no memory. All records are then given up.
+pub fn put_records(records: &mut Records, gone: Rows<Gone>) -> Result<(), OutOfMemory>
+    requires sound { RecordsAreSound (put_back gone records.old) }
+    requires fit { AreFitting gone records.old.entries }
+    ensures { OnOk result (records.new ≡ put_back gone records.old) }
+{
+    records.put_back(gone.into_vec())
 }
 
 /// Removes what belongs to an image from the database, and from the records first those of its

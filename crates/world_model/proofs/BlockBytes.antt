@@ -1,4 +1,4 @@
--- The bytes of a large block are no matter to a mark that is older than the block.
+-- A mark that is older than a large block does not need the block's bytes.
 use Rattle.std.proofs.Common.{◌≡◌, ◌≤◌, ℕ, Bool, true, false, not, ◌&&◌, nat_eq, nat_lt, List, [], ◌∷◌, length, take, refl, sym, ap, subst, ◌∙◌, arith}
 use Rattle.std.specs.Prelude.{Ok, Err, Result, if◌then◌else◌}
 use Rattle.std.specs.List.{list_any}

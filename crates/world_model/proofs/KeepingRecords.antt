@@ -1,7 +1,7 @@
 -- Entering and leaving open records leave what holds of every soft part.
 use Rattle.std.proofs.Common.{ℕ, Bool, ◌&&◌, not, nat_eq, List, Some, None}
-use Rattle.open_records.specs.declared.open_record.KeyedRecord.{KeyedRecord}
-use Rattle.open_records.specs.declared.open_record.Rec.{Rec}
+use Rattle.record_table.specs.declared.open_record.KeyedRecord.{KeyedRecord}
+use Rattle.interface_records.specs.declared.open_record.Rec.{Rec}
 use Rattle.open_records.specs.OpenRecords.{RecordTable, is_of}
 use Rattle.open_records.specs.Adding.{added}
 use Rattle.open_records.specs.Leaving.{cut, cut_on, is_meant}

@@ -308,8 +308,9 @@ taken_beside_stacks change soft levels kept high =
     let are = later-are_levels levels in
     beside (stays later) change soft kept.memory.apart (list_all-mono (nat_le FIRST_IMAGE) (stays later) (addresses_in change) (λ base at. high-stays later base are at) high)
 
--- what is left out is no matter of the database
-fits_still : (change : Change) (after : Soft) (levels : StackLevels) → Fits change after.database → Fits change (without_stacks (later_levels levels) after).database
+-- the stacks that are left out are no part of the database and of the records
+fits_still : (change : Change) (after : Soft) (levels : StackLevels) → Fits change after.database after.records
+    → let left = without_stacks (later_levels levels) after in Fits change left.database left.records
 fits_still change after levels fits = fits
 
 pub noted_beside_stacks : NotedBesideStacks

@@ -1,10 +1,9 @@
 -- Changes of the records, and those that take interfaces with their records, made and taken back.
-use Rattle.std.proofs.Common.{◌≡◌, ℕ, Bool, true, false, not, ◌&&◌, ◌||◌, cond, nat_eq, nat_le, List, [], ◌∷◌, filter, find, Option, Some, None, refl, sym, ap, ◌∙◌, arith}
+use Rattle.std.proofs.Common.{◌≡◌, ℕ, Bool, true, false, cond, nat_eq, nat_le, List, [], ◌∷◌, filter, find, Option, Some, None, refl, sym, ap, ◌∙◌, arith}
 use Rattle.std.specs.Prelude.{Ok, Result, bytes_eq, insert, option_map}
 use Rattle.std.specs.List.{position_or_len}
 use Rattle.std.proofs.lemmas.Bool.{eqb-true}
 use Rattle.std.proofs.lemmas.Bool.Decides.{nat_tests}
-use Rattle.fw_types.specs.declared.attr.TheConstants.Attr.{ALL_BITS}
 use Rattle.fw_types.specs.Guid.{known_guid}
 use Rattle.fw_types.specs.declared.guid.Known.TheVariants.{LoadedImage as LoadedImageProtocol, PciIo}
 use Rattle.guest_memory.specs.declared.address_map.TheConstants.{FIRST_BLOCK, FIRST_IMAGE}
@@ -13,18 +12,15 @@ use Rattle.guest_memory.specs.declared.segment.Segment.{Segment}
 use Rattle.guest_memory.specs.GuestMemory.{beginning_at, lie_from, mapped, unmapped}
 use Rattle.guest_memory.proofs.MappingLemmas.{mapped_takes_back_unmapped}
 use Rattle.guest_memory.proofs.SegmentLemmas.{lie_from-unmapped}
-use Rattle.handle_db.specs.Database.{Database, is_live}
+use Rattle.handle_db.specs.Database.{Database}
 use Rattle.handle_db.specs.Removing.{remove_answer, removed}
 use Rattle.handle_db.specs.Undoing.{remove_undone}
 use Rattle.handle_db.specs.declared.refusal.Removed.{Removed}
 use Rattle.handle_db.proofs.RemovalBack.{undone as removal_undone}
-use Rattle.open_records.specs.declared.open_record.KeyedRecord.{KeyedRecord}
-use Rattle.open_records.specs.declared.undoing.Choice.TheVariants.{WithInterface}
-use Rattle.open_records.specs.Leaving.{cut, is_meant, is_named, swept}
-use Rattle.open_records.specs.OpenRecords.{IsSound as RecordsAreSound, RecordTable, is_of}
-use Rattle.open_records.specs.PuttingBack.{picks, put_back, without_passing}
+use Rattle.open_records.specs.declared.undoing.Gone.{Gone}
+use Rattle.open_records.specs.OpenRecords.{RecordTable}
+use Rattle.open_records.specs.PuttingBack.{put_back}
 use Rattle.open_records.proofs.CountingBackLemmas.{counting_back}
-use Rattle.open_records.proofs.PuttingBackLemmas.{putting_back}
 use Rattle.world_model.specs.declared.bus_child.BusChild.{BusChild}
 use Rattle.world_model.specs.declared.change.Change.TheVariants.{DropImage}
 use Rattle.world_model.specs.declared.image.LoadedImage.{LoadedImage}
@@ -36,7 +32,7 @@ use Rattle.world_model.specs.Marks.{stacks}
 use Rattle.world_model.specs.Records.{records_removed, with_records}
 use Rattle.world_model.specs.Thunks.{enters, without_thunks}
 use Rattle.world_model.specs.Undo.{taken_back, with_child, with_thunks}
-use Rattle.world_model.specs.UndoLaws.{DropImageIsNoted, EnterIsNoted, IsNoted, LeaveIsNoted, UninstallIsNoted, child_gone, dropped_of, gone_with, is_of_handle}
+use Rattle.world_model.specs.UndoLaws.{DropImageIsNoted, EnterIsNoted, IsNoted, LeaveIsNoted, UninstallIsNoted, PutsBack, child_gone, dropped_of, is_of_handle}
 use Rattle.world_model.specs.World.{Soft}
 use Rattle.world_model.proofs.ImageLists.{all_between, found_passes, is_between}
 use Rattle.world_model.proofs.StackLaws.{dropping}
@@ -44,43 +40,6 @@ use Rattle.world_model.proofs.UndoLists.{child_only, image_only, no_child, one_b
 use Rattle.world_model.proofs.UndoNoted.{begins-base}
 
 -- ---- records
-
-twice-more : (a b : KeyedRecord → Bool) (one : KeyedRecord) (rest : List KeyedRecord) (first second : Bool) → a one ≡ first → b one ≡ second
-    → filter (λ (k : KeyedRecord). not (b k)) (filter (λ (k : KeyedRecord). not (a k)) rest) ≡ filter (λ (k : KeyedRecord). not (a k || b k)) rest
-    → filter (λ (k : KeyedRecord). not (b k)) (filter (λ (k : KeyedRecord). not (a k)) (one ∷ rest)) ≡ filter (λ (k : KeyedRecord). not (a k || b k)) (one ∷ rest)
-twice-more a b one rest true second is next later = rw is later
-twice-more a b one rest false true is next later = rw (is, next) later
-twice-more a b one rest false false is next later = rw (is, next) (ap (λ others. one ∷ others) later)
-
--- records that go at once, instead of one kind after the other
-twice : (a b : KeyedRecord → Bool) (entries : List KeyedRecord)
-    → filter (λ (k : KeyedRecord). not (b k)) (filter (λ (k : KeyedRecord). not (a k)) entries) ≡ filter (λ (k : KeyedRecord). not (a k || b k)) entries
-twice a b [] = refl
-twice a b (one ∷ rest) = twice-more a b one rest (a one) (b one) refl refl (twice a b rest)
-
-all_stay : (xs : List KeyedRecord) → filter (λ (k : KeyedRecord). true) xs ≡ xs
-all_stay [] = refl
-all_stay (x ∷ xs) = ap (λ others. x ∷ others) (all_stay xs)
-
-went_with-more : (handle : ℕ) (guid : List ℕ) (gone : Bool) (table : RecordTable)
-    → cond (not gone) (cut handle guid (is_meant None None ALL_BITS) table) (swept handle (cut handle guid (is_meant None None ALL_BITS) table)) ≡ without_passing (picks (WithInterface handle guid gone)) table
-went_with-more handle guid true table =
-    ap (λ (entries : List KeyedRecord). record table { entries = entries })
-    (twice (λ (k : KeyedRecord). is_of handle guid k && is_meant None None ALL_BITS k.rec) (λ (k : KeyedRecord). is_named handle k.rec) table.entries)
-went_with-more handle guid false table =
-    let own = λ (k : KeyedRecord). is_of handle guid k && is_meant None None ALL_BITS k.rec in
-    ap (λ (entries : List KeyedRecord). record table { entries = entries })
-    (sym (all_stay (filter (λ (k : KeyedRecord). not (own k)) table.entries)) ∙ twice own (λ (k : KeyedRecord). false) table.entries)
-
--- the records that go with an interface
-pub went_with : (handle : ℕ) (guid : List ℕ) (gone : Bool) (after : Database) (table : RecordTable) → is_live handle after ≡ not gone
-    → records_removed handle guid after table ≡ without_passing (picks (WithInterface handle guid gone)) table
-went_with handle guid gone after table live = rw live (went_with-more handle guid gone table)
-
-records_back : (handle : ℕ) (guid : List ℕ) (r : Removed) (after : Database) (table : RecordTable) → RecordsAreSound table → is_live handle after ≡ not r.gone
-    → put_back (gone_with handle guid r table) (records_removed handle guid after table) ≡ table
-records_back handle guid r after table sound live =
-    ap (put_back (gone_with handle guid r table)) (went_with handle guid r.gone after table live) ∙ putting_back (picks (WithInterface handle guid r.gone)) table sound
 
 pub enter_is_noted : EnterIsNoted
 unfolding taken_back
@@ -94,12 +53,12 @@ enter_is_noted soft handle guid agent controller attr kept = record {
 
 pub leave_is_noted : LeaveIsNoted
 unfolding taken_back
-leave_is_noted soft choice kept = record {
-  back = ap (λ (records : RecordTable). with_records records soft) (putting_back (picks choice) soft.records kept.records.sound);
+leave_is_noted soft choice gone kept puts_back = record {
+  back = ap (λ (records : RecordTable). with_records records soft) puts_back.back;
   stacks = refl;
   rises = omega arith;
   beside = refl;
-  fits = tt;
+  fits = puts_back.fit;
 }
 
 -- ---- interfaces
@@ -120,21 +79,21 @@ children_back handle guid children apart = children_back-more handle (bytes_eq g
 
 pub uninstall_is_noted : UninstallIsNoted
 unfolding taken_back
-uninstall_is_noted soft handle guid r kept answer =
+uninstall_is_noted soft handle guid r gone kept answer puts_back =
     let undone = removal_undone handle guid r soft.database kept.database.sound answer in
     let after = removed handle guid soft.database in
     let left = children_left handle guid soft.bus_children in
     let child = child_gone handle guid soft.bus_children in
-    let records = put_back (gone_with handle guid r soft.records) (records_removed handle guid after soft.records) in
+    let records = put_back gone (records_removed handle guid after soft.records) in
     record {
       back =
           ap (λ (db : Database). record soft { database = db; records = records; bus_children = with_child child left }) undone.1
-          ∙ ap (λ (table : RecordTable). record soft { records = table; bus_children = with_child child left }) (records_back handle guid r after soft.records kept.records.sound undone.0.live)
+          ∙ ap (λ (table : RecordTable). record soft { records = table; bus_children = with_child child left }) puts_back.back
           ∙ ap (λ (children : List BusChild). record soft { bus_children = children }) (children_back handle guid soft.bus_children kept.children.apart);
       stacks = refl;
       rises = omega arith;
       beside = refl;
-      fits = undone.0;
+      fits = (undone.0, puts_back.fit);
     }
 
 -- ---- images
@@ -155,16 +114,15 @@ memory_back segments base block_at segment block lies found next =
     ap (mapped segment) (mapped_takes_back_unmapped (unmapped segments base) block_at block (lie_from-unmapped 0 segments base lies) next)
     ∙ mapped_takes_back_unmapped segments base segment lies found
 
-pub image_gone : (soft : Soft) (handle : ℕ) (image : LoadedImage) (segment block : Segment) (r : Removed) → IsKept soft → image_of handle soft.images ≡ Some image
+pub image_gone : (soft : Soft) (handle : ℕ) (image : LoadedImage) (segment block : Segment) (r : Removed) (gone : List Gone) → IsKept soft → image_of handle soft.images ≡ Some image
     → beginning_at soft.memory image.base ≡ Ok segment → beginning_at (unmapped soft.memory image.base) image.block ≡ Ok block
-    → remove_answer image.handle (known_guid LoadedImageProtocol) soft.database ≡ Ok r
-    → IsNoted (DropImage (dropped_of image segment block r soft)) soft (without_loaded (Some image) soft)
+    → remove_answer image.handle (known_guid LoadedImageProtocol) soft.database ≡ Ok r → PutsBack gone soft (without_loaded (Some image) soft)
+    → IsNoted (DropImage (dropped_of image segment block r gone soft)) soft (without_loaded (Some image) soft)
 unfolding taken_back
-image_gone soft handle image segment block r kept is found next answer =
+image_gone soft handle image segment block r gone kept is found next answer puts_back =
     let guid = known_guid LoadedImageProtocol in
     let undone = removal_undone image.handle guid r soft.database kept.database.sound answer in
     let after = removed image.handle guid soft.database in
-    let gone = gone_with image.handle guid r soft.records in
     let thunks = filter (enters segment) soft.thunks in
     let place = position_or_len (is_of_handle image.handle) soft.images in
     let named : image.handle ≡ handle = image-named handle image soft.images is in
@@ -202,7 +160,7 @@ image_gone soft handle image segment block r kept is found next answer =
             records = table;
             images = insert (without_image image.handle soft.images) place image;
             thunks = with_thunks thunks (without_thunks (Ok segment) soft.thunks);
-          }) (records_back image.handle guid r after soft.records kept.records.sound undone.0.live)
+          }) puts_back.back
           ∙ ap (λ (images : List LoadedImage). record soft {
             images = images;
             thunks = with_thunks thunks (without_thunks (Ok segment) soft.thunks);
@@ -211,8 +169,9 @@ image_gone soft handle image segment block r kept is found next answer =
       stacks = ap (λ (found : Option LoadedImage). stacks (without_loaded found soft)) (sym is) ∙ dropping soft handle kept;
       rises = omega arith;
       beside = rw (base_high, block_high) refl;
-      fits = undone.0;
+      fits = (undone.0, puts_back.fit);
     }
 
 pub drop_image_is_noted : DropImageIsNoted
-drop_image_is_noted soft handle image segment block r kept is found next answer = rw is (image_gone soft handle image segment block r kept is found next answer)
+drop_image_is_noted soft handle image segment block r gone kept is found next answer puts_back =
+    rw is (image_gone soft handle image segment block r gone kept is found next answer (rw is at puts_back))

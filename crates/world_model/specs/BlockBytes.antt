@@ -1,5 +1,5 @@
--- The bytes of a large block of the pool are no matter to a mark that is older than the block: to take the changes since
--- the mark back leaves the same without them.
+-- A mark that is older than a large block of the pool does not need the block's bytes: to take back the changes since the
+-- mark takes the block away too, so it leaves the same whether a free of the block was noted with its bytes or without.
 use Rattle.std.specs.Prelude.{◌≡◌, ℕ, ◌≤◌, Bool, true, ◌&&◌, nat_eq, nat_lt, List, [], length, map, Ok, if◌then◌else◌}
 use Rattle.guest_memory.specs.declared.segment.Segment.{Segment}
 use Rattle.guest_memory.specs.declared.segment.SegKind.{SegKind}
@@ -47,7 +47,7 @@ EmptyFreeIsNoted =
     (soft : Soft) (at : ℕ) (kind : SegKind) (segment : Segment) → IsKept soft → is_block kind ≡ true → free_answer at kind soft ≡ Ok tt → beginning_at soft.memory at ≡ Ok segment → is_large_block at segment ≡ true
     → IsNoted (Free (emptied segment)) (block_emptied at soft) (block_freed at soft)
 
--- stacks that are left out are no matter to it
+-- it is the same whether the bytes go first, or the stacks that are left out
 abbrev pub EmptiedBesideStacks : Type 0
 EmptiedBesideStacks = (soft : Soft) (at : ℕ) (levels : StackLevels) → without_stacks (later_levels levels) (block_emptied at soft) ≡ block_emptied at (without_stacks (later_levels levels) soft)
 

@@ -237,8 +237,9 @@ pub fn marks_keep()
     ensures undone { UndoingLeavesStacks }
 {}
 
-/// The bytes of a large block of the pool are no matter to a mark that is older than the block: a free
-/// that is noted without them is taken back as one that is noted with them.
+/// A mark that is older than a large block of the pool does not need the block's bytes: to take back
+/// all changes since the mark takes the block away too. So a free of the block may be noted without
+/// them, and an undo leaves the same.
 pub fn new_blocks_need_no_bytes()
     ensures keeps { EmptyingKeeps }
     ensures free { EmptyFreeIsNoted }

@@ -4,7 +4,7 @@ ghost use Rattle.handle_db.specs.Database.{Gives as GivesDb, interface_of, is_li
 ghost use Rattle.open_records.specs.OpenRecords.{records_of};
 ghost use Rattle.open_records.specs.Adding.{Gives as GivesRecord, is_full as is_table_full};
 ghost use Rattle.open_records.specs.Verdicts.{judge, may_enter};
-ghost use Rattle.open_records.specs.PuttingBack.{count_of, gone_by, picks, without_passing};
+ghost use Rattle.open_records.specs.PuttingBack.{AreFitting, count_of, picks, put_back, without_passing};
 ghost use Rattle.world_model.specs.Records.{is_none_or_live, record_entered, with_records};
 ghost use Rattle.world_model.specs.Interfaces.{install_answer, interface as interface_value, interface_added, interface_removed, is_lasting, uninstall_answer, without_value};
 ghost use Rattle.world_model.specs.UndoLaws.{IsNoted};
@@ -116,17 +116,27 @@ impl SoftPart {
         self.records.count(handle, guid, agent, controller, attr)
     }
 
-    /// Removes records, and answers them, each with its interface and its place.
+    /// Takes out the records that are chosen, and answers what went, which an undo puts back.
     ///
     /// # Errors
     ///
     /// `OutOfMemory` if there is no memory; the soft part is then as before.
     pub fn take_records(&mut self, choice: &Choice) -> Result<Vec<Gone>, OutOfMemory>
-        ensures gone { IfOk result (λ gone. gone.items ≡ gone_by (picks choice.now) self.old.records.entries) }
+        ensures back { IfOk result
+            (λ gone. put_back gone.items self.new.records ≡ self.old.records) }
+        ensures fit { IfOk result (λ gone. AreFitting gone.items self.new.records.entries) }
         ensures ok { OnOk result (self.new ≡
             with_records (without_passing (picks choice.now) self.old.records) self.old) }
         ensures err { OnErr result (self.new ≡ self.old) }
     {
         self.records.take(choice)
+    }
+
+    /// Changes nothing that can be seen, and gives up memory for open records that are no longer there.
+    /// For a moment in which no change can be taken back. Takes no memory.
+    pub fn tidy(&mut self)
+        ensures { self.new ≡ self.old }
+    {
+        self.records.tidy();
     }
 }

@@ -3,17 +3,19 @@ ghost use Rattle.std.specs.Prelude.{◌≡◌, true, OnOk};
 ghost use Rattle.fw_types.specs.Guid.{known_guid};
 ghost use Rattle.fw_types.specs.declared.guid.Known.TheVariants.{LoadedImage as LoadedImageProtocol};
 ghost use Rattle.handle_db.specs.Undoing.{HasRoomFor, IsInstalledLast};
+ghost use Rattle.open_records.specs.PuttingBack.{AreFitting};
 ghost use Rattle.world_model.specs.World.{with_memory};
 ghost use Rattle.world_model.specs.Kept.{IsKept};
 ghost use Rattle.world_model.specs.Undo.{put_if_there, taken_back};
 ghost use Rattle.world_model.specs.UndoLaws.{CanTakeBack};
 
 use crate::soft_part::SoftPart;
-use fw_types::{Attr, Guid, Handle, Known, MOST_RECORDS, OutOfMemory};
+use fw_types::{Attr, Guid, Handle, Known, MOST_RECORDS, OutOfMemory, Rows};
 use guest_memory::Segment;
 use open_records::{Gone, Records};
 use soft_pieces::bus_children::{BusList, put_child, replace_list};
-use soft_pieces::images::{put_records_of, remap, with_image, with_thunks_of};
+use soft_pieces::images::{remap, with_image, with_thunks_of};
+use soft_pieces::opens::put_records;
 use std::mem;
 use world_model::{Change, DroppedImage, LoadedImage, Uninstalled};
 
@@ -50,7 +52,7 @@ impl SoftPart {
                 self.uninstall_last(handle, guid, made);
                 Ok(())
             }
-            Change::Uninstall { went } => self.reinstall(&went.unboxed()),
+            Change::Uninstall { went } => self.reinstall(went.unboxed()),
             Change::Enter {
                 handle,
                 guid,
@@ -62,7 +64,7 @@ impl SoftPart {
                 self.set_count_back(handle, guid, agent, controller, attr, before);
                 Ok(())
             }
-            Change::Leave { gone } => self.put_records_back(gone.as_slice()),
+            Change::Leave { gone } => self.put_records_back(gone),
             Change::DropImage { dropped } => self.remap_image(dropped.unboxed()),
             Change::AddImage { image } => {
                 self.unmake_image(image);
@@ -128,16 +130,16 @@ impl SoftPart {
     /// # Errors
     ///
     /// `OutOfMemory` if there is no memory. The records and the children of the bus are then given up.
-    fn reinstall(&mut self, went: &Uninstalled) -> Result<(), OutOfMemory>
-        requires kept { IsKept (taken_back (Change.Uninstall went.now) self.old) }
-        requires room { HasRoomFor went.now.handle went.now.guid went.now.removed
-            self.old.database }
-        ensures { OnOk result (self.new ≡ taken_back (Change.Uninstall went.now) self.old) }
+    fn reinstall(&mut self, went: Uninstalled) -> Result<(), OutOfMemory>
+        requires kept { IsKept (taken_back (Change.Uninstall went) self.old) }
+        requires room { HasRoomFor went.handle went.guid went.removed self.old.database }
+        requires fit { AreFitting went.gone self.old.records.entries }
+        ensures { OnOk result (self.new ≡ taken_back (Change.Uninstall went) self.old) }
     {
         let none = Records::new(self.alloc, MOST_RECORDS);
         let mut records = mem::replace(&mut self.records, none);
         let mut children = mem::replace(&mut self.plain.bus_children, Vec::new(self.alloc));
-        records.put_back(went.gone.as_slice())?;
+        put_records(&mut records, went.gone)?;
         put_child(&mut children, went.child)?;
         self.database
             .undo_remove(went.handle, went.guid, &went.removed)?;
@@ -170,13 +172,14 @@ impl SoftPart {
     /// # Errors
     ///
     /// `OutOfMemory` if there is no memory. All records are then given up.
-    fn put_records_back(&mut self, gone: &[Gone]) -> Result<(), OutOfMemory>
-        requires { IsKept (taken_back (Change.Leave gone.now) self.old) }
-        ensures { OnOk result (self.new ≡ taken_back (Change.Leave gone.now) self.old) }
+    fn put_records_back(&mut self, gone: Rows<Gone>) -> Result<(), OutOfMemory>
+        requires kept { IsKept (taken_back (Change.Leave gone) self.old) }
+        requires fit { AreFitting gone self.old.records.entries }
+        ensures { OnOk result (self.new ≡ taken_back (Change.Leave gone) self.old) }
     {
         let none = Records::new(self.alloc, MOST_RECORDS);
         let mut records = mem::replace(&mut self.records, none);
-        records.put_back(gone)?;
+        put_records(&mut records, gone)?;
         self.records = records;
         Ok(())
     }
@@ -190,14 +193,22 @@ impl SoftPart {
         requires kept { IsKept (taken_back (Change.DropImage dropped) self.old) }
         requires room { HasRoomFor dropped.image.handle (known_guid LoadedImageProtocol)
             dropped.removed self.old.database }
+        requires fit { AreFitting dropped.gone self.old.records.entries }
         ensures { OnOk result (self.new ≡ taken_back (Change.DropImage dropped) self.old) }
     {
         let images = with_image(self.alloc, self.plain.images.as_slice(), &dropped)?;
         let thunks = with_thunks_of(self.alloc, self.plain.thunks.as_slice(), &dropped)?;
         let none = Records::new(self.alloc, MOST_RECORDS);
         let mut records = mem::replace(&mut self.records, none);
-        put_records_of(&mut records, &dropped)?;
-        remap(&mut self.memory, &mut self.database, dropped)?;
+        put_records(&mut records, dropped.gone)?;
+        remap(
+            &mut self.memory,
+            &mut self.database,
+            dropped.segment,
+            dropped.block,
+            dropped.image.handle,
+            dropped.removed,
+        )?;
         self.records = records;
         self.plain.images = images;
         self.plain.thunks = thunks;

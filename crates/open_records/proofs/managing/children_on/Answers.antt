@@ -2,7 +2,7 @@ use Rattle.std.proofs.Common.{◌≡◌, ◌<◌, ◌∙◌, add-one, ap, arith,
 use Rattle.std.proofs.lemmas.List.{drop_all}
 use Rattle.open_records.specs.Managing.{child_numbers, records_on}
 use Rattle.open_records.specs.Places.{joined}
-use Rattle.open_records.specs.OpenRecords.{records_of}
+use Rattle.record_table.specs.Keyed.{records_of}
 use Rattle.open_records.proofs.DistinctNumbers.{once_joined}
 use Rattle.open_records.proofs.ManagingLemmas.{children_at}
 use Rattle.open_records.proofs.managing.children_on.Goals as goal

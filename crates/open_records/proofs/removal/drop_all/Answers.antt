@@ -1,9 +1,9 @@
 use Rattle.std.proofs.Common.{◌∙◌, Bool, ◌&&◌, refl, sym}
 use Rattle.std.proofs.lemmas.Bool.{and_parts}
-use Rattle.open_records.specs.OpenRecords.{is_of}
-use Rattle.open_records.specs.Store.{Interface}
-use Rattle.open_records.specs.declared.open_record.KeyedRecord.{KeyedRecord}
-use Rattle.open_records.proofs.LoopLemmas.{all_gone, cursor_of_first, fewer_by, stays_by, walks_by}
+use Rattle.record_table.specs.Keyed.{is_of}
+use Rattle.record_table.specs.Interfaces.{Interface}
+use Rattle.record_table.specs.declared.open_record.KeyedRecord.{KeyedRecord}
+use Rattle.record_table.proofs.LoopLemmas.{all_gone, cursor_of_first, fewer_by, stays_by, walks_by}
 use Rattle.open_records.proofs.removal.drop_all.Goals as goal
 
 pub loop-at-init : goal.loop-at-init

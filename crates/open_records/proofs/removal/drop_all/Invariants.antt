@@ -1,6 +1,6 @@
 use Rattle.std.proofs.Common.{◌≡◌, filter, not}
-use Rattle.open_records.specs.Removal.{IsAt, count_left}
-use Rattle.open_records.specs.declared.open_record.KeyedRecord.{KeyedRecord}
+use Rattle.record_table.specs.Walking.{IsAt, count_left}
+use Rattle.record_table.specs.declared.open_record.KeyedRecord.{KeyedRecord}
 use Rattle.open_records.proofs.removal.drop_all.Given as goal
 
 -- the records that are not chosen are still there, and no record before the interface is chosen

@@ -1,11 +1,11 @@
 use Rattle.std.proofs.Common.{◌∙◌, Bool, ◌&&◌, Some, arith, refl, sym}
 use Rattle.std.proofs.lemmas.Bool.{and_parts}
-use Rattle.open_records.specs.OpenRecords.{is_of}
+use Rattle.record_table.specs.Keyed.{is_of}
 use Rattle.open_records.specs.PuttingBack.{picks}
-use Rattle.open_records.specs.Removal.{IsNextOn}
-use Rattle.open_records.specs.Store.{Interface}
-use Rattle.open_records.specs.declared.open_record.KeyedRecord.{KeyedRecord}
-use Rattle.open_records.proofs.LoopLemmas.{all_gone, cursor_at, cursor_of_first, fewer_by, filter_stays, jump_less, jumped, match_none, match_some, none_from_here, stays_by, walks_by}
+use Rattle.record_table.specs.Walking.{IsNextOn}
+use Rattle.record_table.specs.Interfaces.{Interface}
+use Rattle.record_table.specs.declared.open_record.KeyedRecord.{KeyedRecord}
+use Rattle.record_table.proofs.LoopLemmas.{all_gone, cursor_at, cursor_of_first, fewer_by, filter_stays, jump_less, jumped, match_none, match_some, none_from_here, stays_by, walks_by}
 use Rattle.open_records.proofs.removal.drop_picked.Goals as goal
 
 pub loop-at-init : goal.loop-at-init
@@ -28,7 +28,7 @@ loop-at-smaller c =
     let past : Interface = c.in-Some-next_of.interface in
     let next : IsNextOn chosen from past c.loop-at.table = match_some c.next_of.result past _ _ c.in-Some-next_of.is c.next_of.ensures in
     let cursor = jumped chosen from past c.loop-at.table (cursor_at chosen from c.loop-at.table c.loop-at.at c.in-Some.is c.loop-at.invariant.1) next in
-    let few = fewer_by chosen past c.loop-at.table c.drop_on.new.table (Some past) refl cursor c.drop_on.ensures c.after-at.result c.after-at.ensures in
+    let few = fewer_by chosen past c.loop-at.table c.drop_where.new.self (Some past) refl cursor c.drop_where.ensures c.after-at.result c.after-at.ensures in
     let less = jump_less chosen from past c.loop-at.table next in
     rw c.in-Some.is (omega (arith, few, less))
 
@@ -40,8 +40,8 @@ loop-at-preserved c =
     let next : IsNextOn chosen from past c.loop-at.table = match_some c.next_of.result past _ _ c.in-Some-next_of.is c.next_of.ensures in
     let cursor = jumped chosen from past c.loop-at.table (cursor_at chosen from c.loop-at.table c.loop-at.at c.in-Some.is c.loop-at.invariant.1) next in
     let on : KeyedRecord → Bool = is_of past.0 past.1 in (
-      stays_by (λ one. on one && chosen one) chosen c.loop-at.table c.drop_on.new.table (λ x goes. (and_parts (on x) (chosen x) goes).1) c.drop_on.ensures ∙ c.loop-at.invariant.0,
-      walks_by chosen past c.loop-at.table c.drop_on.new.table (Some past) refl cursor c.drop_on.ensures c.after-at.result c.after-at.ensures,
+      stays_by (λ one. on one && chosen one) chosen c.loop-at.table c.drop_where.new.self (λ x goes. (and_parts (on x) (chosen x) goes).1) c.drop_where.ensures ∙ c.loop-at.invariant.0,
+      walks_by chosen past c.loop-at.table c.drop_where.new.self (Some past) refl cursor c.drop_where.ensures c.after-at.result c.after-at.ensures,
     )
 
 pub returns : goal.returns

@@ -1,7 +1,7 @@
 use Rattle.std.proofs.Common.{◌∙◌, sym}
-use Rattle.open_records.specs.OpenRecords.{is_of}
+use Rattle.record_table.specs.Keyed.{is_of}
 use Rattle.open_records.specs.Parties.{is_use_of}
-use Rattle.open_records.proofs.LoopLemmas.{cursor_of_first, fewer_to_look, looks_on, none_at_all, second_part}
+use Rattle.record_table.proofs.LoopLemmas.{cursor_of_first, fewer_to_look, looks_on, none_at_all, second_part}
 use Rattle.open_records.proofs.uses.any_use_of.Goals as goal
 
 pub loop-at-init : goal.loop-at-init

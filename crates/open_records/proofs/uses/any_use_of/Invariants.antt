@@ -1,5 +1,5 @@
 use Rattle.open_records.specs.Parties.{is_use_of}
-use Rattle.open_records.specs.Removal.{IsAt, count_left}
+use Rattle.record_table.specs.Walking.{IsAt, count_left}
 use Rattle.open_records.proofs.uses.any_use_of.Given as goal
 
 -- no record before the interface is a use

@@ -1,4 +1,4 @@
-use Rattle.open_records.proofs.WalkLemmas.{named_found, picked_at, picked_naming, picked_on, picked_own, picked_with}
+use Rattle.open_records.proofs.PickedLemmas.{picked_at, picked_naming, picked_on, picked_own, picked_with}
 use Rattle.open_records.proofs.walking.next_of.Goals as goal
 
 pub returns-in-OfInterface : goal.returns-in-OfInterface
@@ -17,4 +17,4 @@ returns-else-gone c =
 
 pub returns-in-Naming : goal.returns-in-Naming
 returns-in-Naming c =
-    picked_naming c.args.choice.now c.args.from c.args.table.now c.next_named.result c.in-Naming.name c.in-Naming.is (named_found c.in-Naming.name c.args.from c.args.table.now c.next_named.result c.next_named.ensures)
+    picked_naming c.args.choice.now c.args.from c.args.table.now c.next_named.result c.in-Naming.name c.in-Naming.is c.next_named.ensures

@@ -1,6 +1,7 @@
 use Rattle.std.proofs.Common.{◌≡◌, ◌∙◌, ap, sym, true}
 use Rattle.fw_types.specs.Attr.{is_legal}
-use Rattle.open_records.specs.OpenRecords.{RecordTable, records_of}
+use Rattle.open_records.specs.OpenRecords.{RecordTable}
+use Rattle.record_table.specs.Keyed.{records_of}
 use Rattle.open_records.specs.Verdicts.{judge, may_enter}
 use Rattle.open_records.proofs.AddingLemmas.{added_sound}
 use Rattle.open_records.proofs.records.Records.add.Goals as goal

@@ -1,8 +1,8 @@
 use Rattle.std.proofs.Common.{◌≤◌, List, filter, length, ℕ, arith}
 use Rattle.std.proofs.lemmas.List.{length-map}
 use Rattle.std.proofs.lemmas.List.Sums.{count_by-le-length, length-filter}
-use Rattle.open_records.specs.OpenRecords.{is_of, records_of}
-use Rattle.open_records.specs.declared.open_record.KeyedRecord.{KeyedRecord}
+use Rattle.record_table.specs.Keyed.{is_of, records_of}
+use Rattle.record_table.specs.declared.open_record.KeyedRecord.{KeyedRecord}
 use Rattle.open_records.proofs.records.Records.count_on.Goals as goal
 
 -- an interface has no more records than there are

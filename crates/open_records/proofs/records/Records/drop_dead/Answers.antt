@@ -1,6 +1,6 @@
 use Rattle.std.proofs.Common.{not}
 use Rattle.open_records.specs.Parties.{are_parties_live}
-use Rattle.open_records.specs.declared.open_record.KeyedRecord.{KeyedRecord}
+use Rattle.record_table.specs.declared.open_record.KeyedRecord.{KeyedRecord}
 use Rattle.open_records.proofs.RemovalLemmas.{filter_sound}
 use Rattle.open_records.proofs.records.Records.drop_dead.Goals as goal
 

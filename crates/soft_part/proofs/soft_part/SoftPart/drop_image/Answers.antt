@@ -66,12 +66,11 @@ returns-clause-noted c =
     (rw c.known-guid.ensures at c.remove-removed.ensures.answer)
     (rw c.known-guid.ensures at c.remove-removed.ensures.ok)
     in
-    let gone = rw c.known-guid.ensures at c.in_ok-gone.ensures.gone in
     let records = rw c.known-guid.ensures at c.take_records-gone.ensures.records in
     let answer = rw c.known-guid.ensures at c.in-Ok.ensures.answer in
     let place : c.image_place-place.result ≡ position_or_len (is_of_handle one.handle) inside.plain.images.items =
     c.image_place-place.ensures ∙ ap (λ (n : ℕ). position_or_len (is_of_handle n) c.as_slice-2.result.now) c.get-2.ensures.value ∙ ap (position_or_len (is_of_handle one.handle)) c.as_slice-2.ensures.value in
     rw (c.in_ok-new.ensures, ← c.self.view_is)
     (noted_drop soft c.args.handle one c.in_ok-segment.segment c.in_ok-segment.block c.in-Ok.removed c.of-gone.result c.of.result c.image_place-place.result c.take_image-parts.new.memory c.remove-removed.new.self c.take_records-gone.new.records
-    c.drop_from.new.images.items c.take_image-parts.new.thunks.items c.self.invariant found c.in_ok-segment.ensures.bytes c.in_ok-segment.ensures.block (sym answer) c.take_image-parts.ensures.memory db_is (c.of-gone.ensures ∙ gone) records
+    c.drop_from.new.images.items c.take_image-parts.new.thunks.items c.self.invariant found c.in_ok-segment.ensures.bytes c.in_ok-segment.ensures.block (sym answer) c.take_image-parts.ensures.memory db_is (rw c.of-gone.ensures c.in_ok-gone.ensures.back) (rw c.of-gone.ensures c.in_ok-gone.ensures.fit) records
     c.drop_from.ensures c.take_image-parts.ensures.thunks (c.of.ensures ∙ c.in_ok-segment.ensures.entering) place)

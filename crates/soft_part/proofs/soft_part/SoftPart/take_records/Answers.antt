@@ -9,5 +9,8 @@ invariant_of-self c =
     let soft : Soft = soft_of inside.memory inside.database inside.records inside.plain in
     kept_taken soft c.args.choice.now c.take.result c.take.new.self c.self.invariant c.take.ensures.ok c.take.ensures.err
 
-pub returns-clause-gone : goal.returns-clause-gone
-returns-clause-gone c = rw (← c.self.view_is) c.take.ensures.gone
+pub returns-clause-back : goal.returns-clause-back
+returns-clause-back c = rw (← c.self.view_is) c.take.ensures.back
+
+pub returns-clause-fit : goal.returns-clause-fit
+returns-clause-fit c = c.take.ensures.fit

@@ -33,4 +33,4 @@ returns-clause-noted c =
     let soft : Soft = soft_of inside.memory inside.database inside.records inside.plain in
     rw (c.in_ok-new.ensures, ← c.self.view_is)
     (noted_uninstall soft c.args.handle c.args.guid c.in_ok-removed.removed c.of-gone.result c.take_child-child.result c.remove.new.self c.take_records-gone.new.records c.take_child-child.new.children.items c.self.invariant
-    (sym c.in_ok-removed.ensures.answer) c.in_ok-removed.ensures.ok (c.of-gone.ensures ∙ c.in_ok-gone.ensures.gone) c.take_records-gone.ensures.records c.take_child-child.ensures.gone c.take_child-child.ensures.left)
+    (sym c.in_ok-removed.ensures.answer) c.in_ok-removed.ensures.ok (rw c.of-gone.ensures c.in_ok-gone.ensures.back) (rw c.of-gone.ensures c.in_ok-gone.ensures.fit) c.take_records-gone.ensures.records c.take_child-child.ensures.gone c.take_child-child.ensures.left)
