@@ -1,4 +1,4 @@
-; Opens the protocol of handle 4 with GET_PROTOCOL for handle 300, and closes it. R4 is the boot services.
+; Opens the protocol of handle 4 with ATTRIBUTES for handle 300, and closes it. R4 is the boot services.
 ; 17 instructions, and each turn 5, OpenProtocol (8) and CloseProtocol (8): 21 units.
         MOVRELd R2, =device_protocol
         MOVRELd R3, =interface
@@ -8,8 +8,8 @@
         PUSHn R6                        ; AgentHandle
         PUSHn R2                        ; Protocol
         PUSHn R6                        ; Handle
-        MOVIqw R7, 2
-        PUSHn R7                        ; Attributes: GET_PROTOCOL
+        MOVIqw R7, ATTRIBUTES
+        PUSHn R7                        ; Attributes
         PUSHn R5                        ; ControllerHandle
         PUSHn R6                        ; AgentHandle
         PUSHn R3                        ; Interface

@@ -1,11 +1,11 @@
-; Installs 31 protocols on the handle of the image, and uninstalls all of them and the loaded image block, which is the
-; firmware's: the last pair is refused, and so the 31 before it are back. R4 is the boot services, and R1 is 0.
-; 15 instructions and HandleProtocol (8), for each protocol 12 and InstallProtocolInterface (8), and each turn 2 and
-; UninstallMultipleProtocolInterfaces (16): 18 units.
-        MOVqw R5, @R0[0x0010]           ; the handle of the image
-        MOVqw R6, R0[0x0010]            ; where it is
+; Uninstalls from the handle of the image CONTROLLER the first 31 protocols of data/64-protocols and the loaded image
+; block, which is the firmware's: the last pair is refused, and so the 31 before it are back. R4 is the boot services,
+; and R1 is 0.
+; 14 instructions and HandleProtocol (8), for each protocol 6, and each turn 2 and UninstallMultipleProtocolInterfaces
+; (16): 18 units.
         MOVRELd R2, =loaded_image_protocol
         MOVRELd R3, =loaded_image
+        MOVIqd R5, CONTROLLER
         PUSHn R3                        ; Interface
         PUSHn R2                        ; Protocol
         PUSHn R5                        ; Handle
@@ -19,12 +19,6 @@
 next_pair:
         PUSHn R1                        ; the interface and the protocol of a pair
         PUSHn R2
-        PUSHn R1                        ; Interface
-        PUSHn R1                        ; InterfaceType
-        PUSHn R2                        ; Protocol
-        PUSHn R6                        ; Handle
-        CALL32EXa @R4[0x00000080]       ; InstallProtocolInterface
-        MOVqw R0, R0[0x0020]
         MOVqw R2, R2[0x0001]            ; the next protocol
         ADD64 R3, R1{-1}
         CMPI64weq R3, 0
