@@ -19,3 +19,6 @@ pub use choosing::Test;
 pub use open_record::{Interface, KeyedRecord};
 pub use table::Table;
 pub use walking::{next_at, next_on, next_with};
+
+#[cfg(test)]
+mod names_tests;

@@ -16,7 +16,7 @@ use std::collections::BTreeSet;
 use std::ops::Bound;
 
 /// How many records may be named one by one when they are put in as a whole.
-const MOST_NAMED: usize = 128;
+const MOST_NAMED: usize = 96;
 
 /// Which interfaces may have records that name a handle. There are at least those that have.
 #[derive(Drop)]

@@ -16,6 +16,12 @@ use std::collections::{BTreeMap, BTreeSet};
 use std::marker::Model;
 use std::ops::Bound;
 
+/// How often an interface may be passed over for each that comes back.
+const SPARES: usize = 4;
+
+/// How often interfaces may be passed over at most.
+const MOST_SPARES: usize = 4096;
+
 /// A handle number, and an interface.
 pub type Naming = (u64, Interface);
 
@@ -25,6 +31,8 @@ pub struct Namings {
     named: BTreeSet<Naming>,
     /// Of some interfaces records that they had. What these name is there with the interface.
     known: BTreeMap<Interface, Known>,
+    /// How often such an interface may be passed over, so that it is still known when it comes back.
+    spares: usize,
 }
 
 impl Model for Namings {
@@ -46,6 +54,7 @@ impl Namings {
         Namings {
             named: BTreeSet::new(alloc),
             known: BTreeMap::new(alloc),
+            spares: 0,
         }
     }
 
@@ -86,6 +95,7 @@ impl Namings {
         ensures kept { AllStay self.old self.new }
         ensures ok { OnOk result (AreThere records.items (handle, guid) self.new) }
     {
+        self.spares = self.spares.saturating_add(SPARES).min(MOST_SPARES);
         if self.are_known((handle, guid), records.as_slice()) {
             return Ok(());
         }
@@ -191,12 +201,23 @@ impl Namings {
         self.named.remove(&(name, (handle, guid)));
     }
 
-    /// An interface that does not come before another, is there with a number, and has no record which names the
-    /// handle.
-    fn first_stale(&self, interfaces: &Interfaces, name: u64, from: Interface) -> Option<Interface>
+    /// Takes out a number with an interface, if it is not known what this had. It may come back with the same
+    /// records: so it is passed over, but not for ever.
+    fn remove_unknown(&mut self, name: u64, handle: Handle, guid: Guid)
+        ensures { OthersStay (name, (handle, guid)) self.old self.new }
+    {
+        if self.spares > 0 && self.known.contains_key(&(handle, guid)) {
+            self.spares -= 1;
+            return;
+        }
+        self.remove(name, handle, guid);
+    }
+
+    /// An interface that comes after another, is there with a number, and has no record which names the handle.
+    fn next_stale(&self, interfaces: &Interfaces, name: u64, past: Interface) -> Option<Interface>
         ensures { IfSome result (λ found. list_any (is_named name) (records_at interfaces.now found) ≡ false) }
     {
-        let lowest = Bound::Included((name, from));
+        let lowest = Bound::Excluded((name, past));
         for entry in self.named.range((lowest, Bound::Unbounded)) {
             if entry.0 != name {
                 return None;
@@ -212,14 +233,14 @@ impl Namings {
     pub fn drop_stale_of(&mut self, interfaces: &Interfaces, name: u64)
         ensures { NamedStay interfaces.now self.old self.new }
     {
-        let mut from = (Handle::firmware(), Guid::from_guest(&[0; 16]));
+        let mut past = (Handle::firmware(), Guid::from_guest(&[0; 16]));
         for _turn in 0..self.named.len() {
-            match self.first_stale(interfaces, name, from) {
+            match self.next_stale(interfaces, name, past) {
                 None => return,
                 Some(stale) => {
                     let (handle, guid) = stale;
-                    self.remove(name, handle, guid);
-                    from = (handle, guid);
+                    self.remove_unknown(name, handle, guid);
+                    past = (handle, guid);
                 }
             }
         }
