@@ -16,7 +16,7 @@ use Rattle.open_records.specs.Laws.{AddedHere, AddedNotElsewhere, AddingKeeps, A
 use Rattle.record_table.specs.declared.open_record.KeyedRecord.{KeyedRecord}
 use Rattle.interface_records.specs.declared.open_record.Rec.{Rec}
 use Rattle.record_table.proofs.LeftLemmas.{filtered_here, left_elsewhere, left_here, other_interface, stays_there}
-use Rattle.record_table.proofs.ListLemmas.{all_filter, any_filtered, any_map, any_weaker, filter-map, filter_both, filter_none}
+use Rattle.record_table.proofs.ListLemmas.{all_filter, any_filtered, any_map, any_weaker, filter_both, filter_none}
 use Rattle.record_table.proofs.Order.{after-not_here, of_itself, same_from_of}
 use Rattle.open_records.proofs.AddingLemmas.{added_sound, all_between, new_between}
 use Rattle.open_records.proofs.RemovalLemmas.{cut_on_sound, cut_sound, swept_sound}

@@ -1,6 +1,7 @@
 -- What is collected with the records of one more protocol.
 use Rattle.std.proofs.Common.{◌≡◌, ◌<◌, ◌≤◌, ℕ, suc, Bool, true, false, not, ◌&&◌, nat_eq, List, [], ◌∷◌, ◌++◌, length, map, filter, find, get_or, drop, Option, None, refl, sym, ap, ◌∙◌, inl, inr, arith}
 use Rattle.std.specs.Int.RustNames.{bit_and}
+use Rattle.std.specs.List.{list_any}
 use Rattle.std.specs.Option.{option_to_list}
 use Rattle.std.proofs.lemmas.Bool.{cases_Bool, eqb-true, eq-eqb, not-false}
 use Rattle.std.proofs.lemmas.Nat.{and_assoc}
@@ -14,7 +15,7 @@ use Rattle.open_records.specs.Managing.{child_numbers, is_child, is_managing, ma
 use Rattle.open_records.specs.Places.{joined}
 use Rattle.record_table.specs.declared.open_record.KeyedRecord.{KeyedRecord}
 use Rattle.interface_records.specs.declared.open_record.Rec.{Rec}
-use Rattle.interface_records.specs.Records.{is_for_child}
+use Rattle.interface_records.specs.Records.{is_for_child, is_meant}
 use Rattle.open_records.specs.Leaving.{fits}
 use Rattle.open_records.proofs.DistinctNumbers.{joined-append}
 use Rattle.record_table.proofs.ListLemmas.{filter_both}
@@ -90,6 +91,35 @@ manager_is (rec ∷ records) one = elim (cases_Bool (is_strong rec)) [
       let rest : length (filter is_strong records) ≤ 1 = rw weak at one in
       rw (weak, weak_agent rec weak) (manager_is records rest)
 ]
+
+-- what only records with BY_DRIVER or EXCLUSIVE can be
+module _ (test : Rec → Bool) (weak_fails : (rec : Rec) → is_strong rec ≡ false → test rec ≡ false) where
+  none_is : (records : List Rec) → length (filter is_strong records) ≡ 0 → list_any test records ≡ false
+  none_is [] none = refl
+  none_is (rec ∷ records) none = elim (cases_Bool (is_strong rec)) [
+    | inl strong ↦ let more : suc (length (filter is_strong records)) ≡ 0 = rw strong at none in absurd (omega arith)
+    | inr weak ↦ let rest : length (filter is_strong records) ≡ 0 = rw weak at none in rw (weak_fails rec weak) (none_is records rest)
+  ]
+
+  pub one_is : (records : List Rec) → length (filter is_strong records) ≤ 1 → list_any test (option_to_list (find is_strong records)) ≡ list_any test records
+  one_is [] one = refl
+  one_is (rec ∷ records) one = elim (cases_Bool (is_strong rec)) [
+    | inl strong ↦
+        let most : suc (length (filter is_strong records)) ≤ 1 = rw strong at one in
+        let none = none_is records (omega arith) in
+        rw (strong, none) refl
+    | inr weak ↦
+        let rest : length (filter is_strong records) ≤ 1 = rw weak at one in
+        rw (weak, weak_fails rec weak) (one_is records rest)
+  ]
+
+pub weak_meant : (agent controller : Option ℕ) (rec : Rec) → is_strong rec ≡ false → is_meant agent controller BY_DRIVER rec ≡ false
+weak_meant agent controller rec weak = rw (weak_agent rec weak) (by_bool (fits agent rec.agent) (fits controller rec.controller))
+  where
+    by_bool : (a b : Bool) → ((a && b) && false) ≡ false
+    by_bool true true = refl
+    by_bool true false = refl
+    by_bool false b = refl
 
 -- ---- the BY_CHILD_CONTROLLER records alone
 

@@ -1,9 +1,9 @@
 -- Entering an open (UEFI 2.8, 7.3: OpenProtocol).
-use Rattle.std.specs.Prelude.{◌≡◌, ℕ, ◌+◌, ◌-◌, ◌^◌, Bool, true, false, ◌&&◌, not, nat_le, min, List, [], ◌∷◌, ◌++◌, length, map, filter, Result, Ok, Err, if◌then◌else◌}
+use Rattle.std.specs.Prelude.{◌≡◌, ℕ, Bool, true, false, ◌&&◌, not, nat_le, List, [], ◌∷◌, ◌++◌, length, map, Result, Ok, Err, if◌then◌else◌}
 use Rattle.std.specs.List.{list_any}
 pub use Rattle.record_table.specs.Changing.{most, raised, raised_where, with_new, with_raised}
 use Rattle.open_records.specs.OpenRecords.{RecordTable, is_equal}
-use Rattle.record_table.specs.Keyed.{is_of, is_before, is_after, records_of}
+use Rattle.record_table.specs.Keyed.{records_of}
 use Rattle.interface_records.specs.declared.open_record.Rec.{Rec}
 use Rattle.record_table.specs.declared.open_record.KeyedRecord.{KeyedRecord}
 use Rattle.open_records.specs.declared.fault.RecFault.{RecFault}

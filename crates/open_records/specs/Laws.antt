@@ -1,5 +1,5 @@
 -- What the single changes of the records leave as it was, and what they mean for one interface.
-use Rattle.std.specs.Prelude.{◌≡◌, ℕ, ◌≤◌, Bool, true, false, ◌&&◌, not, nat_eq, bytes_eq, List, [], map, filter, count_by, None}
+use Rattle.std.specs.Prelude.{◌≡◌, ℕ, ◌≤◌, Bool, true, false, not, nat_eq, List, [], map, filter, count_by, None}
 use Rattle.std.specs.List.{list_any}
 use Rattle.fw_types.specs.Attr.{is_legal}
 use Rattle.fw_types.specs.declared.attr.TheConstants.Attr.{ALL_BITS}

@@ -3,7 +3,6 @@ use Rattle.std.specs.Prelude.{◌≡◌, ℕ, ◌≤◌, Bool, true, ◌&&◌, �
 use Rattle.std.specs.List.{list_all}
 use Rattle.fw_types.specs.Attr.{is_legal}
 pub use Rattle.interface_records.specs.Records.{is_equal, is_strong}
-use Rattle.interface_records.specs.declared.open_record.Rec.{Rec}
 pub use Rattle.record_table.specs.Keyed.{falls, interface_order, is_after, is_before, is_of, no_pair, records_of, rise}
 use Rattle.record_table.specs.declared.open_record.KeyedRecord.{KeyedRecord}
 

@@ -1,15 +1,11 @@
 -- Records that went, put back in their places; and the count of a record, set back.
-use Rattle.std.specs.Prelude.{◌≡◌, ℕ, Bool, ◌&&◌, ◌||◌, not, nat_eq, List, [], ◌∷◌, ◌++◌, find, filter, map, Option, Some, None, if◌then◌else◌}
-use Rattle.interface_records.specs.Undoing.{put_again}
-use Rattle.interface_records.specs.declared.interface_records.Taken.{Taken}
+use Rattle.std.specs.Prelude.{◌≡◌, ℕ, Bool, ◌&&◌, ◌||◌, not, nat_eq, List, [], ◌∷◌, find, filter, map, None, if◌then◌else◌}
 use Rattle.parted_records.specs.Parting.{IsFit, lasting}
-use Rattle.interface_records.specs.declared.open_record.Rec.{Rec}
 pub use Rattle.record_table.specs.Changing.{count_in, counted, is_open, put_taken, with_interface}
-use Rattle.open_records.specs.OpenRecords.{IsSound, RecordTable, is_equal}
-use Rattle.record_table.specs.Keyed.{is_after, is_before, is_of, records_of}
+use Rattle.open_records.specs.OpenRecords.{IsSound, RecordTable}
+use Rattle.record_table.specs.Keyed.{is_of, records_of}
 use Rattle.open_records.specs.Adding.{added}
 use Rattle.fw_types.specs.declared.attr.TheConstants.Attr.{ALL_BITS}
-use Rattle.record_table.specs.Interfaces.{keyed}
 use Rattle.open_records.specs.Leaving.{is_meant, is_named}
 use Rattle.open_records.specs.declared.undoing.Choice.{Choice}
 use Rattle.open_records.specs.declared.undoing.Choice.TheVariants.{OfInterface, OnHandle, Naming, WithInterface}

@@ -1,8 +1,11 @@
 //! The children of a handle, and the agents that manage it.
 ghost use Rattle.std.specs.Prelude.{◌≡◌, None, Some, true, IfOk, OnOk, find, option_map, if◌then◌else◌};
+ghost use Rattle.std.specs.List.{list_any};
 ghost use Rattle.std.specs.Option.{option_to_list};
 ghost use Rattle.record_table.specs.Keyed.{records_of};
 ghost use Rattle.open_records.specs.OpenRecords.{stand_apart};
+ghost use Rattle.fw_types.specs.declared.attr.TheConstants.Attr.{BY_DRIVER as by_driver};
+ghost use Rattle.interface_records.specs.Records.{is_asked};
 ghost use Rattle.open_records.specs.Leaving.{fits};
 ghost use Rattle.open_records.specs.Managing.{child_numbers, is_child, is_managing, manager_numbers, once_each, records_on};
 ghost use Rattle.open_records.specs.Places.{joined, with_number};
@@ -10,7 +13,7 @@ ghost use Rattle.interface_records.specs.declared.open_record.Rec.{Rec as RecVal
 
 use crate::found::Found;
 use fw_types::{Attr, Guid, Handle, OutOfMemory};
-use interface_records::Rec;
+use interface_records::{Meant, Rec};
 use record_table::Table;
 use std::alloc::Global;
 
@@ -67,6 +70,19 @@ pub fn manager_on(table: &Table, handle: Handle, guid: Guid) -> Option<u64>
             }
         }
         None => None,
+    }
+}
+
+/// Whether an interface has a record that is meant, if those with BY_DRIVER are. Only one of its records can have
+/// that, and the others are not looked at.
+pub fn has_driver_meant(table: &Table, handle: Handle, guid: Guid, meant: &Meant) -> bool
+    requires apart { stand_apart table.now ≡ true }
+    requires driver { meant.now.bits ≡ by_driver }
+    ensures { result ≡ list_any (is_asked meant.now) (records_of table.now handle guid) }
+{
+    match table.holder(handle, guid) {
+        None => false,
+        Some(rec) => rec.is_meant(meant),
     }
 }
 

@@ -15,7 +15,7 @@ use crate::choices::{AgentsOf, Dead};
 use crate::fault::RecFault;
 use crate::finding::{Placed, meant_in, placed_in};
 use crate::leaving::take_picked;
-use crate::managing::{children_on, manager_on, managers_on};
+use crate::managing::{children_on, has_driver_meant, manager_on, managers_on};
 use crate::removal::{drop_all, drop_picked};
 use crate::telling::make_ready;
 use crate::undoing::{Choice, Gone, put_all};
@@ -351,6 +351,9 @@ impl Records {
             controller,
             bits,
         };
+        if bits == Attr::BY_DRIVER {
+            return has_driver_meant(&self.table, handle, guid, &meant);
+        }
         self.table.has_meant(handle, guid, &meant)
     }
 
