@@ -8,3 +8,4 @@ pub mod UndoKeeps
 pub mod IndexLemmas
 pub mod HasAfter
 pub mod NamedLemmas
+pub mod InterfaceAfter
