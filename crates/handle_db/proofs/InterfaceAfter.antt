@@ -1,6 +1,5 @@
 -- Which interface of a protocol a handle has after one is removed.
 use Rattle.std.proofs.Common.{◌≡◌, ℕ, Bool, true, false, not, cond, ◌&&◌, nat_eq, List, [], ◌∷◌, filter, find, bytes_eq, Option, Some, None, option_map, refl, ap, sym, ◌∙◌, if◌then◌else◌}
-use Rattle.std.specs.List.{list_any}
 use Rattle.std.proofs.lemmas.Slice.Eq.{bytes_eq-Decides}
 use Rattle.handle_db.specs.Database.{Database, IsSound, interface_of, interfaces_in, is_guid, is_handle, rise_from}
 use Rattle.handle_db.specs.Removing.{RemovalsLeaveOthers, without_guid}
@@ -40,7 +39,11 @@ abbrev found_in : List ℕ → List Interface → Option (ℕ × ℕ)
 found_in other interfaces = option_map (λ (one : Interface). (one.interface, one.owner)) (find (is_guid other) interfaces)
 
 left_in : (guid other : List ℕ) (one : Option HandleEntry) → found_in other (interfaces_in (option_map (without_guid guid) one)) ≡ cond (bytes_eq guid other) None (found_in other (interfaces_in one))
-left_in guid other None = elim (bytes_eq guid other) as (λ b. None ≡ cond b None None) [ true ↦ refl | false ↦ refl ]
+left_in guid other None = either (bytes_eq guid other)
+  where
+    either : (b : Bool) → found_in other [] ≡ cond b None (found_in other [])
+    either true = refl
+    either false = refl
 left_in guid other (Some entry) = ap (option_map (λ (one : Interface). (one.interface, one.owner))) (find_others guid other entry.interfaces) ∙ mapped (bytes_eq guid other)
   where
     mapped : (b : Bool) → option_map (λ (one : Interface). (one.interface, one.owner)) (cond b None (find (is_guid other) entry.interfaces)) ≡ cond b None (found_in other entry.interfaces)
