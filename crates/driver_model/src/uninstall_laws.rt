@@ -3,14 +3,9 @@
 
 ghost use Rattle.driver_model.specs.EarlyRefusal.{EarlyRefusalsChangeNothing};
 
-use handle_db::laws::{removals_leave_others, removing_keeps};
-
 /// A list that comes to a pair that is refused, after pairs of interfaces without a record that is
 /// BY_CHILD_CONTROLLER, BY_DRIVER or EXCLUSIVE, answers INVALID_PARAMETER and changes nothing, units
 /// and events included.
 pub fn early_refusals_change_nothing()
     ensures { EarlyRefusalsChangeNothing }
-{
-    removals_leave_others();
-    removing_keeps();
-}
+{}

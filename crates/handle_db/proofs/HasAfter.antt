@@ -214,7 +214,7 @@ module _ (handle number : ℕ) (guid other : List ℕ) where
 
 -- ---- the database's changes
 
-pub kept_number : (handle : ℕ) (f : HandleEntry → HandleEntry) → ((entry : HandleEntry) → (f entry).handle ≡ entry.handle) → (entry : HandleEntry) → (if is_handle handle entry then f entry else entry).handle ≡ entry.handle
+kept_number : (handle : ℕ) (f : HandleEntry → HandleEntry) → ((entry : HandleEntry) → (f entry).handle ≡ entry.handle) → (entry : HandleEntry) → (if is_handle handle entry then f entry else entry).handle ≡ entry.handle
 kept_number handle f same entry = elim (is_handle handle entry) as (λ b. (if b then f entry else entry).handle ≡ entry.handle) [ true ↦ same entry | false ↦ refl ]
 
 module _ (handle number : ℕ) (other : List ℕ) (entries : List HandleEntry) where

@@ -8,4 +8,3 @@ pub mod UndoKeeps
 pub mod IndexLemmas
 pub mod HasAfter
 pub mod NamedLemmas
-pub mod InterfaceAfter

@@ -1,8 +1,8 @@
 -- Removing a protocol interface (UEFI 2.8, 'EFI_BOOT_SERVICES.UninstallProtocolInterface()'). A handle
 -- whose last interface goes is no longer live.
-use Rattle.std.specs.Prelude.{◌≡◌, ℕ, ◌&&◌, not, nat_eq, List, length, map, filter, find, bytes_eq, Option, Some, None, Result, Ok, Err, if◌then◌else◌}
+use Rattle.std.specs.Prelude.{ℕ, not, nat_eq, List, length, map, filter, find, Option, Some, None, Result, Ok, Err, if◌then◌else◌}
 use Rattle.std.specs.List.{position_or_len}
-use Rattle.handle_db.specs.Database.{Database, IsSound, is_handle, is_guid, is_live, interface_of, interfaces_of, has_any}
+use Rattle.handle_db.specs.Database.{Database, IsSound, is_handle, is_guid, is_live, interfaces_of, has_any}
 use Rattle.handle_db.specs.declared.handle_entry.HandleEntry.{HandleEntry}
 use Rattle.handle_db.specs.declared.handle_entry.Interface.{Interface}
 use Rattle.handle_db.specs.declared.refusal.DbRefusal.{DbRefusal}
@@ -44,10 +44,3 @@ removed handle guid db = record db { handles = without_interface handle guid db.
 abbrev pub RemovingKeeps : Type 0
 RemovingKeeps =
     (handle : ℕ) (guid : List ℕ) (db : Database) → IsSound db → IsSound (removed handle guid db)
-
--- what is found after an interface is removed: not that one, and each other as before
-abbrev pub RemovalsLeaveOthers : Type 0
-RemovalsLeaveOthers =
-    (handle : ℕ) (guid : List ℕ) (number : ℕ) (other : List ℕ) (db : Database) → IsSound db
-    → interface_of number other (removed handle guid db)
-    ≡ (if nat_eq handle number && bytes_eq guid other then None else interface_of number other db)

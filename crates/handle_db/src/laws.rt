@@ -3,7 +3,7 @@
 
 ghost use Rattle.handle_db.specs.Installing.{InstallingKeeps};
 ghost use Rattle.handle_db.specs.OwnedInterfaces.{RemovingOwnedKeeps};
-ghost use Rattle.handle_db.specs.Removing.{RemovalsLeaveOthers, RemovingKeeps};
+ghost use Rattle.handle_db.specs.Removing.{RemovingKeeps};
 ghost use Rattle.handle_db.specs.Undoing.{InstallingIsUndone, RemovingIsUndone, UndoingInstallKeeps, UndoingRemoveKeeps};
 
 /// If an interface may be installed, a sound database is sound afterwards.
@@ -14,12 +14,6 @@ pub fn installing_keeps()
 /// After an interface is removed, a sound database is sound.
 pub fn removing_keeps()
     ensures { RemovingKeeps }
-{}
-
-/// After an interface is removed its handle does not have it, and each other interface is as before,
-/// those of the same handle too.
-pub fn removals_leave_others()
-    ensures { RemovalsLeaveOthers }
 {}
 
 /// After the interfaces that go with an image are removed, a sound database is sound.

@@ -1,11 +1,11 @@
--- Which interface of a protocol a handle has after one is removed.
+-- Which interface of a protocol a handle has after one is removed: not that one, and each other as before.
 use Rattle.std.proofs.Common.{◌≡◌, ℕ, Bool, true, false, not, cond, ◌&&◌, nat_eq, List, [], ◌∷◌, filter, find, bytes_eq, Option, Some, None, option_map, refl, ap, sym, ◌∙◌, if◌then◌else◌}
 use Rattle.std.proofs.lemmas.Slice.Eq.{bytes_eq-Decides}
 use Rattle.handle_db.specs.Database.{Database, IsSound, interface_of, interfaces_in, is_guid, is_handle, rise_from}
-use Rattle.handle_db.specs.Removing.{RemovalsLeaveOthers, without_guid}
+use Rattle.handle_db.specs.Removing.{removed, without_guid}
 use Rattle.handle_db.specs.declared.handle_entry.HandleEntry.{HandleEntry}
 use Rattle.handle_db.specs.declared.handle_entry.Interface.{Interface}
-use Rattle.handle_db.proofs.HasAfter.{changed, find-changed, interfaces_left, kept_number}
+use Rattle.handle_db.proofs.HasAfter.{changed, find-changed, interfaces_left}
 use Rattle.handle_db.proofs.OnlyOne.{find-none}
 use Rattle.handle_db.proofs.Order.{rise_from-map}
 use Rattle.handle_db.proofs.RemovalBack.{none_left, others}
@@ -50,14 +50,18 @@ left_in guid other (Some entry) = ap (option_map (λ (one : Interface). (one.int
     mapped true = refl
     mapped false = refl
 
-pub removal-leaves : RemovalsLeaveOthers
+kept_number : (handle : ℕ) (guid : List ℕ) (entry : HandleEntry) → (if is_handle handle entry then without_guid guid entry else entry).handle ≡ entry.handle
+kept_number handle guid entry = elim (is_handle handle entry) as (λ b. (if b then without_guid guid entry else entry).handle ≡ entry.handle) [ true ↦ refl | false ↦ refl ]
+
+pub removal-leaves : (handle : ℕ) (guid : List ℕ) (number : ℕ) (other : List ℕ) (db : Database) → IsSound db
+    → interface_of number other (removed handle guid db) ≡ (if nat_eq handle number && bytes_eq guid other then None else interface_of number other db)
 removal-leaves handle guid number other db sound =
     ap (found_in other) (interfaces_left number 1 (changed handle (without_guid guid) db.handles) rising)
     ∙ ap (λ (one : Option HandleEntry). found_in other (interfaces_in one)) (find-changed handle number (without_guid guid) (λ e. refl) db.handles)
     ∙ by_number (nat_eq handle number)
   where
     rising : rise_from 1 (changed handle (without_guid guid) db.handles) ≡ true
-    rising = rise_from-map (λ (e : HandleEntry). if is_handle handle e then without_guid guid e else e) (kept_number handle (without_guid guid) (λ e. refl)) 1 db.handles ∙ sound.rising
+    rising = rise_from-map (λ (e : HandleEntry). if is_handle handle e then without_guid guid e else e) (kept_number handle guid) 1 db.handles ∙ sound.rising
 
     by_number : (b : Bool) → found_in other (interfaces_in (cond b (option_map (without_guid guid) (find (is_handle number) db.handles)) (find (is_handle number) db.handles)))
         ≡ cond (b && bytes_eq guid other) None (interface_of number other db)
