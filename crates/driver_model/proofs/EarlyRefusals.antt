@@ -1,7 +1,7 @@
 -- Uninstalls of several interfaces that are refused early: up to the pair that is refused, interfaces go with their records.
-use Rattle.std.proofs.Common.{◌≡◌, ℕ, Bool, true, false, not, cond, ◌&&◌, ◌||◌, nat_eq, List, [], ◌∷◌, ◌++◌, map, filter, find, bytes_eq, Option, Some, None, option_map, refl, ap, sym, subst, ◌∙◌, if◌then◌else◌}
+use Rattle.std.proofs.Common.{◌≡◌, ℕ, Bool, true, false, not, cond, ◌&&◌, ◌||◌, nat_eq, List, [], ◌∷◌, ◌++◌, map, filter, find, bytes_eq, Option, Some, None, option_map, refl, ap, sym, subst, ◌∙◌, if◌then◌else◌, inl, inr}
 use Rattle.std.specs.List.{list_any, list_all}
-use Rattle.std.proofs.lemmas.Bool.{and_parts, eqb-true, not-true, or_parts}
+use Rattle.std.proofs.lemmas.Bool.{and_parts, eqb-true, not-true, or_cases, or_parts}
 use Rattle.std.proofs.lemmas.List.Folds.{list_any-append}
 use Rattle.fw_types.specs.Attr.{has_bit_of, is_legal, legal_attributes}
 use Rattle.fw_types.specs.declared.attr.TheConstants.Attr.{AGENT_BITS, ALL_BITS, BY_DRIVER, WEAK_BITS}
@@ -67,11 +67,10 @@ either_of : (bits : ℕ) (numbers : List ℕ) → list_any (nat_eq bits) numbers
 either_of bits [] some all = absurd cc
 either_of bits (number ∷ numbers) some all =
     let parts = and_parts (is_either number) (list_all is_either numbers) all in
-    by_first (nat_eq bits number) refl some parts.0 parts.1
-  where
-    by_first : (here : Bool) → nat_eq bits number ≡ here → (here || list_any (nat_eq bits) numbers) ≡ true → is_either number ≡ true → list_all is_either numbers ≡ true → is_either bits ≡ true
-    by_first true is some its all = ap is_either (eqb-true bits number is) ∙ its
-    by_first false is some its all = either_of bits numbers some all
+    elim (or_cases (nat_eq bits number) (list_any (nat_eq bits) numbers) some) [
+      | inl same ↦ ap is_either (eqb-true bits number same) ∙ parts.0
+      | inr more ↦ either_of bits numbers more parts.1
+    ]
 
 weak_alone : (bits : ℕ) → is_legal bits ≡ true → has_bit_of AGENT_BITS bits ≡ false → (has_bit_of WEAK_BITS bits ≡ true) × (has_bit_of BY_DRIVER bits ≡ false)
 weak_alone bits legal unused =
@@ -214,11 +213,11 @@ module _ (settings : Settings) (below : Option (Level State)) (scope : Scope) (f
       goes : is_refused_after before i first.soft ≡ false → uninstalled plain settings below scope ADriver i w ≡ (SUCCESS, gone i w)
       unfolding uninstalled
       goes fine =
-          let parts = or_parts (is_listed i before) (not (is_first_there ADriver i.interface (interface_on i first.soft)) || is_kept_from ADriver (interface_on i first.soft)) fine in
-          let tests = or_parts (not (is_first_there ADriver i.interface (interface_on i first.soft))) (is_kept_from ADriver (interface_on i first.soft)) parts.1 in
+          let tests = or_parts (is_listed i before || not (is_first_there ADriver i.interface (interface_on i first.soft))) (is_kept_from ADriver (interface_on i first.soft)) fine in
+          let parts = or_parts (is_listed i before) (not (is_first_there ADriver i.interface (interface_on i first.soft))) tests.0 in
           let same : interface_on i w.soft ≡ interface_on i first.soft =
           later.interfaces i ∙ ap (λ (b : Bool). if b then None else interface_on i first.soft) parts.0 in
-          let there : is_first_there ADriver i.interface (interface_on i w.soft) ≡ true = ap (is_first_there ADriver i.interface) same ∙ positive (is_first_there ADriver i.interface (interface_on i first.soft)) tests.0 in
+          let there : is_first_there ADriver i.interface (interface_on i w.soft) ≡ true = ap (is_first_there ADriver i.interface) same ∙ positive (is_first_there ADriver i.interface (interface_on i first.soft)) parts.1 in
           let free : is_kept_from ADriver (interface_on i w.soft) ≡ false = ap (is_kept_from ADriver) same ∙ tests.1 in
           through (is_first_there ADriver i.interface (interface_on i w.soft)) (is_kept_from ADriver (interface_on i w.soft)) (after_release plain settings below scope ADriver i (released plain below scope i (manager_on i w.soft) w)) there free
           ∙ ap (λ (manager : Option ℕ). after_release plain settings below scope ADriver i (released plain below scope i manager w)) no_manager
