@@ -1,5 +1,5 @@
 -- Uninstalls of several interfaces that are refused early: up to the pair that is refused, interfaces go with their records.
-use Rattle.std.proofs.Common.{◌≡◌, ℕ, Bool, true, false, not, cond, ◌&&◌, ◌||◌, nat_eq, List, [], ◌∷◌, ◌++◌, map, filter, find, bytes_eq, Option, Some, None, option_map, refl, ap, sym, subst, ◌∙◌, if◌then◌else◌, inl, inr}
+use Rattle.std.proofs.Common.{◌≡◌, ℕ, Bool, true, false, not, cond, ◌&&◌, ◌||◌, nat_eq, List, [], ◌∷◌, ◌++◌, map, filter, Option, Some, None, option_map, refl, ap, sym, subst, ◌∙◌, if◌then◌else◌, inl, inr}
 use Rattle.std.specs.List.{list_any, list_all}
 use Rattle.std.proofs.lemmas.Bool.{and_parts, eqb-true, not-true, or_cases, or_parts}
 use Rattle.std.proofs.lemmas.List.Folds.{list_any-append}
@@ -20,7 +20,6 @@ use Rattle.open_records.specs.Leaving.{cut, is_meant, is_named, swept}
 use Rattle.open_records.specs.Managing.{is_managing}
 use Rattle.world_model.specs.World.{State}
 use Rattle.world_model.specs.Kept.{IsKept}
-use Rattle.world_model.specs.Records.{unless_live}
 use Rattle.world_model.proofs.Segments.{list_any-neither}
 use Rattle.service_model.specs.declared.call.HandleInterface.{HandleInterface}
 use Rattle.driver_model.specs.Moves.{changed, drops_weak, plain, uninstalls}

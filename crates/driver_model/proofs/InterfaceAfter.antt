@@ -1,5 +1,5 @@
 -- Which interface of a protocol a handle has after one is removed: not that one, and each other as before.
-use Rattle.std.proofs.Common.{◌≡◌, ℕ, Bool, true, false, not, cond, ◌&&◌, nat_eq, List, [], ◌∷◌, filter, find, bytes_eq, Option, Some, None, option_map, refl, ap, sym, ◌∙◌, if◌then◌else◌}
+use Rattle.std.proofs.Common.{◌≡◌, ℕ, Bool, true, false, not, cond, ◌&&◌, nat_eq, List, [], ◌∷◌, find, bytes_eq, Option, Some, None, option_map, refl, ap, ◌∙◌, if◌then◌else◌}
 use Rattle.std.proofs.lemmas.Slice.Eq.{bytes_eq-Decides}
 use Rattle.handle_db.specs.Database.{Database, IsSound, interface_of, interfaces_in, is_guid, is_handle, rise_from}
 use Rattle.handle_db.specs.Removing.{removed, without_guid}

@@ -4,7 +4,7 @@
 -- It comes to a pair that is refused, and no interface before that one has a record with BY_CHILD_CONTROLLER, BY_DRIVER or
 -- EXCLUSIVE. So no driver is disconnected and no handle is connected again up to there: nothing happens but that interfaces
 -- go with their records, and they come back.
-use Rattle.std.specs.Prelude.{◌≡◌, ℕ, Bool, true, false, ◌&&◌, ◌||◌, not, List, [], ◌∷◌, ◌++◌, Option, None}
+use Rattle.std.specs.Prelude.{◌≡◌, Bool, true, false, ◌&&◌, ◌||◌, not, List, [], ◌∷◌, ◌++◌, Option, None}
 use Rattle.std.specs.List.{list_any}
 use Rattle.fw_types.specs.declared.attr.TheConstants.Attr.{AGENT_BITS}
 use Rattle.fw_types.specs.declared.status.TheConstants.Status.{INVALID_PARAMETER}
