@@ -3,12 +3,11 @@
 ghost use Rattle.std.specs.Prelude.{◌≡◌};
 ghost use Rattle.driver_model.specs.EarlyRefusal.{is_in_use, is_listed, is_refused_after, refused_early};
 
+use crate::uninstalling::{is_first_there, is_kept_from};
 use driver_model::Remover;
 use fw_types::Attr;
 use fw_world::World;
 use service_model::HandleInterface;
-
-use crate::uninstalling::{is_first_there, is_kept_from};
 
 /// Whether an uninstall of several interfaces comes to a pair that is refused, with no record that
 /// is BY_CHILD_CONTROLLER, BY_DRIVER or EXCLUSIVE on an interface before it. Takes no memory.
