@@ -58,7 +58,7 @@ none_stay p q (x ∷ xs) none =
 
 -- ---- records that nobody uses the interface by
 
--- a legal attribute has one of the weak bits, or one of the others
+-- a legal attribute has one of the weak bits and not BY_DRIVER, or one of the other bits
 abbrev is_either : ℕ → Bool
 is_either bits = has_bit_of AGENT_BITS bits || has_bit_of WEAK_BITS bits && not (has_bit_of BY_DRIVER bits)
 
@@ -168,9 +168,6 @@ module _ (settings : Settings) (below : Option (Level State)) (scope : Scope) (f
     unfolding uninstalled
     refused_here others refused = ap (λ (found : Option (ℕ × ℕ)). if_uninstalled plain others (answer found)) (later.interfaces i) ∙ by_listed (is_listed i before) refused
       where
-        rest : Status × State
-        rest = after_release plain settings below scope ADriver i (released plain below scope i (manager_on i w.soft) w)
-
         by_tests : (there firmware : Bool) (last : Status × State) → (not there || firmware) ≡ true → if_uninstalled plain others (told there firmware last) ≡ (false, w)
         by_tests false firmware last is = refl
         by_tests true true last is = refl
