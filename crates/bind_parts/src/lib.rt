@@ -13,7 +13,7 @@
 //! - `bus_start`, `rom_drivers`, `bus_stop`: what Supported and Start of the PCI bus driver do
 //!   before option ROMs are loaded, what is loaded of them, and what Stop does around uninstalls.
 //! - `removal`, `uninstalling`: what OpenProtocol and the uninstalls do around the disconnect of a
-//!   driver.
+//!   driver. `early_refusal`: which uninstalls are refused before that.
 //! - `handles`: live handles and children; `stopping`: what DisconnectController looks at and
 //!   closes.
 //!
@@ -24,6 +24,7 @@ mod asking;
 mod bus_start;
 mod bus_stop;
 mod driver_calls;
+mod early_refusal;
 mod handles;
 mod loading;
 mod native_calls;
@@ -40,6 +41,7 @@ pub use asking::{child_connection, connect_status, driver_call, drivers_to_ask};
 pub use bus_start::{begin_start, bus_support, path_of};
 pub use bus_stop::{child_of_root, free_blocks, interfaces_to_go};
 pub use driver_calls::{allowance, code_of, event_kind, is_success, outcome_of};
+pub use early_refusal::is_refused_early;
 pub use handles::{children_of, live_handle};
 pub use loading::{ImageLoad, entry_call, failed, refused, settle_load};
 pub use native_calls::{callee, caller, passed_slots, serve_caller, take_answer, take_end};

@@ -31,3 +31,5 @@ pub mod Searches
 pub mod Chains
 pub mod BoardLaws
 pub mod CommandPaths
+pub mod InterfaceAfter
+pub mod EarlyRefusals

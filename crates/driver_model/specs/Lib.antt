@@ -9,6 +9,7 @@ pub mod Connect
 pub mod Disconnect
 pub mod OpenWithRemoval
 pub mod UninstallWithReconnection
+pub mod EarlyRefusal
 pub mod ImageLife
 pub mod RomDrivers
 pub mod BusSupport

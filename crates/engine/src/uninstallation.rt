@@ -15,10 +15,11 @@ ghost use Rattle.bind_parts.specs.Events.{NoFewerEvents};
 use crate::connection::connect;
 use crate::disconnection::disconnect;
 use bind_parts::{
-    handle_to_clear, is_first_there, is_kept_from, is_passed_on, manager_on, remove_interface,
-    settle_all,
+    handle_to_clear, is_first_there, is_kept_from, is_passed_on, is_refused_early, manager_on,
+    remove_interface, settle_all,
 };
 use driver_model::bus_laws::drivers_may_uninstall;
+use driver_model::uninstall_laws::early_refusals_change_nothing;
 use driver_model::{Connection, Disconnection, Remover, Scope, Settings};
 use fw_types::{Handle, OutOfMemory, Status};
 use fw_world::World;
@@ -207,7 +208,8 @@ pub fn uninstall_each(
 }
 
 /// Uninstalls all interfaces of a list, for a driver, and answers SUCCESS; or leaves the soft part as it was,
-/// and answers INVALID_PARAMETER.
+/// and answers INVALID_PARAMETER. A list that is refused for certain before a driver is called is refused at
+/// once, so nothing goes and comes back.
 ///
 /// # Errors
 ///
@@ -233,6 +235,11 @@ pub fn uninstall_many(
     ensures units { OnOk result (world.new.now.hard.units ≤ world.old.now.hard.units) }
     ensures events { OnOk result (NoFewerEvents world.old.now world.new.now) }
 {
+    if is_refused_early(world, interfaces) {
+        early_refusals_change_nothing();
+        world.is_kept();
+        return Ok(Status::INVALID_PARAMETER);
+    }
     levels_are_free();
     marks_suffice();
     let mark = world.mark();

@@ -152,6 +152,11 @@ uninstallation::uninstall_each-loop-i-preserved t c = record {
 pub uninstallation::uninstall_each-returns-clause-now : goal.uninstallation::uninstall_each-returns-clause-now
 uninstallation::uninstall_each-returns-clause-now t c = sym c.loop-i.invariant.rest ∙ each_all _ _ _ _ _ _ _ c.loop-i-test.false
 
+pub uninstallation::uninstall_many-returns-then-is_refused_early-clause-now : goal.uninstallation::uninstall_many-returns-then-is_refused_early-clause-now
+uninstallation::uninstall_many-returns-then-is_refused_early-clause-now t c =
+    c.early_refusals_change_nothing.ensures c.args.settings.now (level_below c.args.settings.now c.args.room) c.args.scope c.args.interfaces.now c.args.world.now.now c.is_kept.ensures
+    (sym c.is_refused_early.ensures ∙ c.if-is_refused_early.true)
+
 pub uninstallation::uninstall_many-mark-mark-requires : goal.uninstallation::uninstall_many-mark-mark-requires
 uninstallation::uninstall_many-mark-mark-requires t c = (c.marks_suffice.ensures.spare c.args.room c.args.world.now.now.soft c.args.world.now.marks c.requires.marks).1
 

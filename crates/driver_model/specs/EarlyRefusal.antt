@@ -1,0 +1,50 @@
+-- An uninstall of several interfaces that is refused for certain before a driver is called (UEFI 2.8, 7.3:
+-- UninstallMultipleProtocolInterfaces).
+--
+-- It comes to a pair that is refused, and no interface before that one has a record with BY_CHILD_CONTROLLER, BY_DRIVER or
+-- EXCLUSIVE. So no driver is disconnected and no handle is connected again up to there: nothing happens but that interfaces
+-- go with their records, and they come back.
+use Rattle.std.specs.Prelude.{◌≡◌, Bool, true, false, ◌&&◌, ◌||◌, not, List, [], ◌∷◌, ◌++◌, Option, None}
+use Rattle.std.specs.List.{list_any}
+use Rattle.fw_types.specs.declared.attr.TheConstants.Attr.{AGENT_BITS}
+use Rattle.fw_types.specs.declared.status.TheConstants.Status.{INVALID_PARAMETER}
+use Rattle.record_table.specs.Keyed.{is_same}
+use Rattle.open_records.specs.Leaving.{is_meant}
+use Rattle.world_model.specs.World.{Soft, State}
+use Rattle.world_model.specs.Kept.{IsKept}
+use Rattle.service_model.specs.declared.call.HandleInterface.{HandleInterface}
+use Rattle.driver_model.specs.Moves.{plain}
+use Rattle.driver_model.specs.Level.{Level}
+use Rattle.driver_model.specs.UninstallWithReconnection.{interface_on, is_first_there, is_kept_from, many_uninstalled, records_on}
+use Rattle.driver_model.specs.declared.call.Scope.{Scope}
+use Rattle.driver_model.specs.declared.request.Remover.TheVariants.{ADriver}
+use Rattle.driver_model.specs.declared.settings.Settings.{Settings}
+
+-- whether one of these pairs is of a pair's handle and protocol
+abbrev pub is_listed : HandleInterface → List HandleInterface → Bool
+is_listed i pairs = list_any (λ (one : HandleInterface). is_same one.handle one.guid i.handle i.guid) pairs
+
+-- whether a pair is refused when those before it are gone: it is not there, or is the firmware's
+abbrev pub is_refused_after : (before : List HandleInterface) → HandleInterface → Soft → Bool
+is_refused_after before i soft =
+    is_listed i before || not (is_first_there ADriver i.interface (interface_on i soft))
+    || is_kept_from ADriver (interface_on i soft)
+
+-- whether an interface has a record with BY_CHILD_CONTROLLER, BY_DRIVER or EXCLUSIVE
+abbrev pub is_in_use : HandleInterface → Soft → Bool
+is_in_use i soft = list_any (is_meant None None AGENT_BITS) (records_on i soft)
+
+-- the pairs in their order, after those that went before them
+abbrev pub refused_after : (before : List HandleInterface) → List HandleInterface → Soft → Bool
+refused_after before [] soft = false
+refused_after before (i ∷ interfaces) soft =
+    is_refused_after before i soft || not (is_in_use i soft) && refused_after (before ++ i ∷ []) interfaces soft
+
+abbrev pub refused_early : List HandleInterface → Soft → Bool
+refused_early interfaces soft = refused_after [] interfaces soft
+
+-- Such an uninstall answers INVALID_PARAMETER and changes nothing, units and events included, whatever the levels below do.
+abbrev pub EarlyRefusalsChangeNothing : Type 0
+EarlyRefusalsChangeNothing =
+    (settings : Settings) (below : Option (Level State)) (scope : Scope) (interfaces : List HandleInterface) (w : State) → IsKept w.soft
+    → refused_early interfaces w.soft ≡ true → many_uninstalled plain settings below scope interfaces w ≡ (INVALID_PARAMETER, w)
