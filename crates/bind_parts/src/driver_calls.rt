@@ -48,7 +48,7 @@ fn is_bus_driver_call(call: &Call) -> bool
     call.driver == Handle::bus_driver().get() && call.binding == BUS_BINDING
 }
 
-/// What is entered at an address behind which there is no thunk. A function of the bus driver is its
+/// What is entered at an address that is no thunk's. A function of the bus driver is its
 /// own only by its own binding.
 fn native_code(call: &Call) -> Code
     ensures { result ≡ code_by None call.now }

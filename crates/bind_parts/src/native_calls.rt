@@ -31,7 +31,7 @@ fn is_bus_function(at: u64) -> bool
     matches!(at, BUS_SUPPORTED | BUS_START | BUS_STOP | BUS_GET_DRIVER)
 }
 
-/// The code behind a thunk, or nothing.
+/// The code of a thunk, or nothing.
 fn thunk_or_nothing(entry: Option<u64>) -> Callee
     ensures { result ≡ thunk_or_nothing entry }
 {

@@ -83,7 +83,7 @@ pub record KeepsMoves {S : Type 0} (o : Operations S) (is_listable : List ℕ �
       → R level w (o.make (begins_event parent kind driver controller extra) (o.make (pays CALL_PRICE) w))
   -- a part of the units is set aside for a while
   pub capped : (level most : ℕ) (w v : S) → R level (o.make (caps most) w) v → R level w (o.make (returns (units_aside most (o.see w).hard)) v)
-  -- a stack of the next level stands for a while
+  -- a stack of the next level is there for a while
   pub stacked : (level : ℕ) (slots children : List ℕ) (w v : S) → level < MOST_LEVELS → has_sixteen slots ≡ true → is_listable children ≡ true
       → R (suc level) (o.make (pushes (suc level) slots children) w) v → R level w (o.make (pops (suc level)) v)
   -- no child is a list, and so are the children that a Stop is given

@@ -144,8 +144,8 @@ RestCanRun = (soft : Soft) → IsKept soft → stacks soft ≡ [] → CanRun (le
 abbrev pub FreeStays : Type 0
 FreeStays = (old new : Soft) (room : ℕ) (marks : List Soft) → Stays old new → is_free room (stacks old) marks ≡ true → is_free room (stacks new) marks ≡ true
 
--- where the device path of a command may lie there is nothing later, if nothing was there, and nothing but the path if only
--- that was there
+-- Where the device path of a command may lie there is nothing later if nothing was there, and nothing but the path if only
+-- that was there.
 abbrev pub NoPathStays : Type 0
 NoPathStays = (old new : Soft) → Stays old new → has_no_path old.memory ≡ true → has_no_path new.memory ≡ true
 

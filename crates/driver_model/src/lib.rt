@@ -7,8 +7,9 @@
 //! `OpenWithRemoval.antt` and `UninstallWithReconnection.antt` are the rules of the services that go on, and
 //! `specs/GuestRun.antt` and `DriverCall.antt` those of runs and calls. `specs/Levels.antt` ties the levels together.
 //! `laws`, `call_laws` and `unload_laws` say what they leave, `bus_laws` what holds where the PCI bus driver changes the
-//! state, `fuel_laws` that no run ends because its turns run out, and `uninstall_laws` that some uninstalls
-//! change nothing, and `order_laws` what holds of the order of drivers and of searches. There is code only where definitions and code share a plain type.
+//! state, `fuel_laws` that no run ends because its turns run out, `uninstall_laws` that some uninstalls change nothing, and
+//! `order_laws` what holds of the order of drivers and of searches. There is code only where definitions and code share a
+//! plain type.
 #![tactic(auto)]
 
 mod binding;

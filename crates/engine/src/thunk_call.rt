@@ -17,7 +17,7 @@ use fw_types::{CALL_PRICE, Cause, OutOfMemory};
 use fw_world::World;
 use world_model::laws::{levels_are_free, marks_suffice};
 
-/// Calls the code behind a thunk. The answer is how the caller's run ends with it, if it does: for
+/// Calls the code of a thunk. The answer is how the caller's run ends with it, if it does: for
 /// `Budget` if fewer units are left than its price; for `Nest`, after the price is paid, at the
 /// last level; or as that code ends the driver call.
 #[cycle(engine)]
@@ -50,7 +50,7 @@ pub fn call_thunk(
     enter_thunk(world, settings, room - 1, scope, entry, cpu)
 }
 
-/// Runs the code behind a thunk with the caller's arguments.
+/// Runs the code of a thunk with the caller's arguments.
 #[cycle(engine)]
 fn enter_thunk(
     world: &mut World,

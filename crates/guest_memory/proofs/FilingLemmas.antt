@@ -163,7 +163,7 @@ module _ (slots : Slab Segment) (bases : tree.BTreeMap ℕ ℕ) (filed : IsFiled
     has = ap (λ slot. has_under slot at n) there ∙ has;
   }
 
--- what the map names stands, entry by entry
+-- what the map names is there, entry by entry
 pub stand_from : (slots : Slab Segment) (bases : tree.BTreeMap ℕ ℕ) → tree.IsOrdered nat_cmp bases → ((base key : ℕ) → is_number key (tree.get nat_cmp bases base) ≡ is_number base (base_under slots key)) → all_stand slots bases.entries ≡ true
 stand_from slots bases ordered named =
     list_all-from_AllPass (λ (e : ℕ × ℕ). is_number e.0 (base_under slots e.1)) bases.entries (λ k d within.

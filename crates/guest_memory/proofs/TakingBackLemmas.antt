@@ -23,7 +23,7 @@ take-replaced bytes i others inside =
     ∙ take-append-le i (take i bytes) (others ++ back) (omega (arith, length-take i bytes))
     ∙ take-take i i bytes (omega arith)
 
--- and so are those behind it
+-- and so are those after it
 drop-replaced : (bytes : List ℕ) (i n : ℕ) (others : List ℕ) → i ≤ length bytes → length others ≡ n → drop (i + n) (replaced bytes i others) ≡ drop (i + n) bytes
 drop-replaced bytes i n others inside size =
     drop-append-drop (i + length others) bytes (take i bytes ++ others) (i + n) (omega (arith, size)) (omega (arith, length-append (take i bytes) others, length-take i bytes))

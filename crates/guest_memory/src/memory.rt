@@ -77,7 +77,7 @@ impl Memory {
         Ok(())
     }
 
-    /// Puts a segment in its place by address, where no limit is asked: it was taken out by `unmap`, and
+    /// Puts a segment in its place by address. No limit is asked: it was taken out by `unmap`, and
     /// passed the limits as it was mapped. With it, the segments lie in order and none meets another.
     ///
     /// # Errors
@@ -193,7 +193,7 @@ impl Memory {
         }
     }
 
-    /// Writes bytes from an address on, where they can be written (`can_write`). Nothing else
+    /// Writes bytes from an address on, if they can be written (`can_write`). Nothing else
     /// changes. Takes no memory.
     pub fn put(&mut self, at: u64, bytes: &[u8])
         requires writable { IsTrue (is_writable_range self.old at (length bytes.now)) }
@@ -205,7 +205,7 @@ impl Memory {
         self.segments.put(&self.last_data, at, bytes);
     }
 
-    /// Writes a byte `n` times from an address on, where that can be written (`can_write`). Nothing
+    /// Writes a byte `n` times from an address on, if that can be written (`can_write`). Nothing
     /// else changes. Takes no memory.
     pub fn fill(&mut self, at: u64, n: u64, byte: u8)
         requires writable { IsTrue (is_writable_range self.old at n) }

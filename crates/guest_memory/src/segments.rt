@@ -20,7 +20,7 @@ use std::marker::Model;
 /// The keys of segments, by the addresses at which the segments begin.
 type Bases = BTreeMap<u64, usize>;
 
-/// Segments in order of address, no two of which meet. Each stands under a key, so that none is moved when
+/// Segments in order of address, no two of which meet. Each is under a key, so that none is moved when
 /// another comes or goes.
 #[derive(Drop)]
 pub(crate) struct Segments {

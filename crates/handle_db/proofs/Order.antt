@@ -86,7 +86,7 @@ module _ (entries : List HandleEntry) (rise : rise_from 1 entries ≡ true) (han
 
 -- ---- one handle among them
 
--- no handle stands below the number from which they rise
+-- no handle is below the number from which they rise
 pub none_below : (low handle : ℕ) (entries : List HandleEntry) → rise_from low entries ≡ true → handle < low → list_any (is_handle handle) entries ≡ false
 none_below low handle entries rise lt =
     none_pass (is_handle handle) nobody entries (λ k h. ne_eqb (handle_at entries k) handle (λ same. omega (arith, low_at low entries k rise h)))
@@ -130,7 +130,7 @@ rise_from-filter p low (entry ∷ entries) rise =
       | false ↦ rise_more low (entry.handle + 1) (filter p entries) (omega (arith, parts.0)) rest
     ]
 
--- changing entries but for their numbers
+-- changing entries except for their numbers
 pub rise_from-map : (g : HandleEntry → HandleEntry) → ((entry : HandleEntry) → (g entry).handle ≡ entry.handle) → (low : ℕ) (entries : List HandleEntry) → rise_from low (map g entries) ≡ rise_from low entries
 rise_from-map g same low [] = refl
 rise_from-map g same low (entry ∷ entries) = rw (same entry, rise_from-map g same (entry.handle + 1) entries) refl

@@ -28,7 +28,7 @@ install_answer handle guid db = unless (install_refusals handle guid db) (unwrap
 abbrev pub appended : Interface → HandleEntry → HandleEntry
 appended new entry = record entry { interfaces = entry.interfaces ++ new ∷ [] }
 
--- the handles, where one has one more interface
+-- the handles, of which one has one more interface
 abbrev pub with_interface : ℕ → Interface → List HandleEntry → List HandleEntry
 with_interface handle new entries =
     map (λ (entry : HandleEntry). if is_handle handle entry then appended new entry else entry) entries

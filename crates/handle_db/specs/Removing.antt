@@ -31,7 +31,7 @@ abbrev pub without_guid : List ℕ → HandleEntry → HandleEntry
 without_guid guid entry =
     record entry { interfaces = filter (λ (one : Interface). not (is_guid guid one)) entry.interfaces }
 
--- the handles, where one is without its interface of a protocol; a handle without interfaces is left out
+-- the handles, of which one is without its interface of a protocol; a handle without interfaces is left out
 abbrev pub without_interface : ℕ → List ℕ → List HandleEntry → List HandleEntry
 without_interface handle guid entries =
     filter has_any (map (λ (entry : HandleEntry). if is_handle handle entry then without_guid guid entry else entry) entries)

@@ -61,7 +61,7 @@ with_entry new (entry ∷ entries) =
 abbrev pub inserted : ℕ → Interface → HandleEntry → HandleEntry
 inserted place one entry = record entry { interfaces = insert entry.interfaces place one }
 
--- the handles, where one has one more interface, at a place
+-- the handles, of which one has one more interface, at a place
 abbrev pub with_interface_at : ℕ → ℕ → Interface → List HandleEntry → List HandleEntry
 with_interface_at handle place one entries =
     map (λ (entry : HandleEntry). if is_handle handle entry then inserted place one entry else entry) entries

@@ -152,7 +152,7 @@ impl Db {
         }
     }
 
-    /// Takes a removal back: the interface of a protocol that was removed from a handle stands again at its
+    /// Takes a removal back: the interface of a protocol that was removed from a handle is again at its
     /// place. If the handle went with it, the handle is live again, with its number. The database is as the
     /// removal left it.
     ///

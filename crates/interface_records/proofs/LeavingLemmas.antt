@@ -19,7 +19,7 @@ use Rattle.interface_records.proofs.IndexLemmas.{eq-nat}
 use Rattle.interface_records.proofs.PlaceLemmas.{later_at}
 use Rattle.interface_records.proofs.RowLemmas.{flip, head_at, later_rising, none_later, tail_at}
 
--- ---- two lists of rows with the same records under their stamps, but for those that go
+-- ---- two lists of rows with the same records under their stamps, except those that go
 
 module _ (test : Rec → Bool) where
   -- those of the old rows that pass are gone

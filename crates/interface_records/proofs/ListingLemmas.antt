@@ -1,9 +1,9 @@
--- What tells records from the others of the interface.
+-- Lists of records of an interface, by their openers.
 use Rattle.std.proofs.Common.{◌≡◌, ◌<◌, ◌≤◌, ◌+◌, ℕ, Bool, true, false, not, ◌&&◌, nat_eq, List, [], ◌∷◌, ◌++◌, length, get_or, drop, Option, Some, None, refl, sym, ap, ◌∙◌, inl, inr, append_assoc}
 use Rattle.std.proofs.lemmas.Bool.{and_parts, cases_Bool, eqb-true, eq-eqb}
 use Rattle.std.proofs.lemmas.List.{append-nil, drop_all, drop_more}
 use Rattle.std.proofs.lemmas.List.Folds.{list_any-append}
-use Rattle.interface_records.specs.Listing.{Tell, is_told, openers_at, slot_opener}
+use Rattle.interface_records.specs.Listing.{Lists, is_listed, openers_at, slot_opener}
 use Rattle.interface_records.specs.Records.{Opener, is_asked, is_by, is_named, opener_of}
 use Rattle.interface_records.specs.Stamped.{AreStampsOf, Rising, Row, at, has_number, holds, records_in}
 use Rattle.interface_records.specs.declared.open_record.Meant.{Meant}
@@ -34,31 +34,31 @@ pub named_alike : (name : ℕ) → Alike (is_named name)
 named_alike name = alike_by (is_named name) (λ rec. refl)
 
 module _ (test : Rec → Bool) (rows : List Row) where
-  only_at : Alike test → (stamps : List ℕ) → ((stamp : ℕ) → has_number stamp stamps ≡ true → holds test (at rows stamp) ≡ true) → (rec : Rec) → is_told (openers_at rows stamps) rec ≡ true → test rec ≡ true
-  only_at alike [] all rec told = absurd cc
-  only_at alike (stamp ∷ stamps) all rec told =
-      by_slot (only_at alike stamps (λ k among. all k (or_right (nat_eq k stamp) _ among)) rec) (at rows stamp) (all stamp (or_left _ (has_number stamp stamps) (eq-eqb stamp stamp refl))) told
+  only_at : Alike test → (stamps : List ℕ) → ((stamp : ℕ) → has_number stamp stamps ≡ true → holds test (at rows stamp) ≡ true) → (rec : Rec) → is_listed (openers_at rows stamps) rec ≡ true → test rec ≡ true
+  only_at alike [] all rec listed = absurd cc
+  only_at alike (stamp ∷ stamps) all rec listed =
+      by_slot (only_at alike stamps (λ k among. all k (or_right (nat_eq k stamp) _ among)) rec) (at rows stamp) (all stamp (or_left _ (has_number stamp stamps) (eq-eqb stamp stamp refl))) listed
     where
-      by_slot : (is_told (openers_at rows stamps) rec ≡ true → test rec ≡ true) → (slot : Option Rec) → holds test slot ≡ true → is_told (slot_opener slot ++ openers_at rows stamps) rec ≡ true → test rec ≡ true
-      by_slot later None holds_it told = absurd cc
-      by_slot later (Some r) passes told = elim (cases_Bool (is_by (opener_of r) rec)) [
+      by_slot : (is_listed (openers_at rows stamps) rec ≡ true → test rec ≡ true) → (slot : Option Rec) → holds test slot ≡ true → is_listed (slot_opener slot ++ openers_at rows stamps) rec ≡ true → test rec ≡ true
+      by_slot later None holds_it listed = absurd cc
+      by_slot later (Some r) passes listed = elim (cases_Bool (is_by (opener_of r) rec)) [
         | inl by ↦ alike r rec by passes
-        | inr away ↦ later (rw away at told)
+        | inr away ↦ later (rw away at listed)
       ]
 
-  all_at : (stamps : List ℕ) (stamp : ℕ) (rec : Rec) → has_number stamp stamps ≡ true → at rows stamp ≡ Some rec → is_told (openers_at rows stamps) rec ≡ true
+  all_at : (stamps : List ℕ) (stamp : ℕ) (rec : Rec) → has_number stamp stamps ≡ true → at rows stamp ≡ Some rec → is_listed (openers_at rows stamps) rec ≡ true
   all_at [] stamp rec among there = absurd cc
   all_at (first ∷ stamps) stamp rec among there = elim (cases_Bool (nat_eq stamp first)) [
     | inl same ↦
         let here : at rows first ≡ Some rec = ap (at rows) (sym (eqb-true stamp first same)) ∙ there in
-        ap (λ (slot : Option Rec). is_told (slot_opener slot ++ openers_at rows stamps) rec) here ∙ or_left _ (is_told (openers_at rows stamps) rec) (own rec)
+        ap (λ (slot : Option Rec). is_listed (slot_opener slot ++ openers_at rows stamps) rec) here ∙ or_left _ (is_listed (openers_at rows stamps) rec) (own rec)
     | inr away ↦
         list_any-append (λ (opener : Opener). is_by opener rec) (slot_opener (at rows first)) (openers_at rows stamps)
-        ∙ or_right (is_told (slot_opener (at rows first)) rec) _ (all_at stamps stamp rec (rw away at among) there)
+        ∙ or_right (is_listed (slot_opener (at rows first)) rec) _ (all_at stamps stamp rec (rw away at among) there)
   ]
 
-  pub tell_by : Alike test → Rising rows → (stamps : List ℕ) → AreStampsOf stamps test rows → (openers : List Opener) → openers ≡ openers_at rows stamps → Tell openers test (records_in rows)
-  tell_by alike up stamps are openers is =
+  pub lists_by : Alike test → Rising rows → (stamps : List ℕ) → AreStampsOf stamps test rows → (openers : List Opener) → openers ≡ openers_at rows stamps → Lists openers test (records_in rows)
+  lists_by alike up stamps are openers is =
       rw is
       (record {
         only = only_at alike stamps (λ stamp among. sym (are stamp) ∙ among);
@@ -66,15 +66,15 @@ module _ (test : Rec → Bool) (rows : List Row) where
       })
     where
       missed : Rec → Bool
-      missed rec = test rec && not (is_told (openers_at rows stamps) rec)
+      missed rec = test rec && not (is_listed (openers_at rows stamps) rec)
 
       by_slot : (stamp : ℕ) (slot : Option Rec) → at rows stamp ≡ slot → holds missed slot ≡ false
       by_slot stamp None there = refl
       by_slot stamp (Some rec) there = elim (cases_Bool (test rec)) [
         | inl passes ↦
             let among : has_number stamp stamps ≡ true = are stamp ∙ ap (holds test) there ∙ passes in
-            let told : is_told (openers_at rows stamps) rec ≡ true = all_at stamps stamp rec among there in
-            rw (passes, told) refl
+            let listed : is_listed (openers_at rows stamps) rec ≡ true = all_at stamps stamp rec among there in
+            rw (passes, listed) refl
         | inr fails ↦ rw fails refl
       ]
 

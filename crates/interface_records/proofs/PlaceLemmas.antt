@@ -79,7 +79,7 @@ not_first row low rows up apart there = elim (cases_Bool (is_by (opener_of low.1
   | inr not_by ↦ not_by
 ]
 
--- A record that is entered under a stamp stands right after that of the last row up to the stamp.
+-- A record that is entered under a stamp comes right after that of the last row up to the stamp.
 pub placed : (stamp : ℕ) (rec : Rec) (rows : List Row) → Rising rows → Apart rows → at rows stamp ≡ None → records_in (insert_entry nat_cmp rows stamp rec) ≡ put_after (before_in stamp rows) rec (records_in rows)
 placed stamp rec [] up apart vacant = refl
 placed stamp rec (row ∷ rows) up apart vacant = by_order (λ none. placed stamp rec rows (later_rising row rows up) (apart_later row rows up apart) none) (nat_cmp stamp row.0) refl

@@ -1,4 +1,4 @@
--- What tells records from the others of the interface.
+-- Lists of records of an interface, by their openers.
 use Rattle.std.specs.Prelude.{◌≡◌, ℕ, Bool, true, false, ◌&&◌, not, List, [], ◌∷◌, ◌++◌, Option, Some, None}
 use Rattle.std.specs.List.{list_any}
 use Rattle.interface_records.specs.Records.{Opener, is_by, opener_of}
@@ -6,13 +6,13 @@ use Rattle.interface_records.specs.Stamped.{Row, at}
 use Rattle.interface_records.specs.declared.open_record.Rec.{Rec}
 
 -- whether a record is that of one of some openers
-abbrev pub is_told : List Opener → Rec → Bool
-is_told openers rec = list_any (λ (opener : Opener). is_by opener rec) openers
+abbrev pub is_listed : List Opener → Rec → Bool
+is_listed openers rec = list_any (λ (opener : Opener). is_by opener rec) openers
 
--- Openers tell only records that pass a test, and all of those that there are.
-pub record Tell (openers : List Opener) (test : Rec → Bool) (records : List Rec) : Type 0 where
-  pub only : (rec : Rec) → is_told openers rec ≡ true → test rec ≡ true
-  pub all : list_any (λ (rec : Rec). test rec && not (is_told openers rec)) records ≡ false
+-- Only records that pass a test are listed, and all of those that there are.
+pub record Lists (openers : List Opener) (test : Rec → Bool) (records : List Rec) : Type 0 where
+  pub only : (rec : Rec) → is_listed openers rec ≡ true → test rec ≡ true
+  pub all : list_any (λ (rec : Rec). test rec && not (is_listed openers rec)) records ≡ false
 
 -- ---- by their stamps
 

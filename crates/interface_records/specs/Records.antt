@@ -52,7 +52,7 @@ recounted count rec = record rec { count = count }
 abbrev pub Opener : Type 0
 Opener = ℕ × ℕ × ℕ
 
--- what tells a record from the others of its interface
+-- what no other record of its interface has
 abbrev pub opener_of : Rec → Opener
 opener_of rec = (rec.agent, rec.controller, rec.attr)
 

@@ -5,7 +5,7 @@ ghost use Rattle.interface_records.specs.Stamped.{Row as RowValue, at, before_in
 ghost use Rattle.std.specs.BTreeMap.{is_at};
 ghost use Rattle.std.specs.Map.{remove_entry};
 ghost use Rattle.std.specs.Ordering.{nat_cmp};
-ghost use Rattle.interface_records.specs.Listing.{Tell};
+ghost use Rattle.interface_records.specs.Listing.{Lists};
 ghost use Rattle.interface_records.specs.Undoing.{put_after, put_again};
 ghost use Rattle.interface_records.specs.declared.open_record.Rec.{Rec as RecValue};
 
@@ -23,7 +23,7 @@ use std::marker::Model;
 pub struct Taken {
     /// The record before it, if it was not the first.
     pub before: Option<Opener>,
-    /// Its stamp. It can be under this stamp again where no other record has come to be.
+    /// Its stamp. It can be under this stamp again if no other record has come to be.
     pub stamp: u64,
     /// What it was.
     pub rec: Rec,
@@ -146,7 +146,7 @@ impl InterfaceRecords {
         rows.largest_name()
     }
 
-    /// Whether each record has one of some bits, as where all of them are meant. Takes no memory.
+    /// Whether each record has one of some bits, as when all bits are meant. Takes no memory.
     pub fn have_bits(&self, bits: u32) -> bool
         ensures { result ≡ list_all (has_bits bits) self.now }
     {
@@ -181,14 +181,14 @@ impl InterfaceRecords {
         take_from(&mut self.rows, opener)
     }
 
-    /// What tells the records that are meant from the others. If an agent is given, or a controller, or if few have
+    /// The openers of the records that are meant. If an agent is given, or a controller, or if few have
     /// one of the bits, the others are not looked at.
     ///
     /// # Errors
     ///
     /// `OutOfMemory` if there is no memory for the list.
     pub fn openers_meant(&self, meant: &Meant) -> Result<Vec<Opener>, OutOfMemory>
-        ensures { IfOk result (λ openers. Tell openers.items (is_asked meant.now) self.now) }
+        ensures { IfOk result (λ openers. Lists openers.items (is_asked meant.now) self.now) }
     {
         let rows = &self.rows;
         rows.soundness();
@@ -197,13 +197,13 @@ impl InterfaceRecords {
         Ok(openers)
     }
 
-    /// What tells the records that name a handle from the others, which are not looked at. One may be told twice.
+    /// The openers of the records that name a handle. The other records are not looked at. One may be listed twice.
     ///
     /// # Errors
     ///
     /// `OutOfMemory` if there is no memory for the list.
     pub fn openers_named(&self, name: u64) -> Result<Vec<Opener>, OutOfMemory>
-        ensures { IfOk result (λ openers. Tell openers.items (is_named name) self.now) }
+        ensures { IfOk result (λ openers. Lists openers.items (is_named name) self.now) }
     {
         let rows = &self.rows;
         rows.soundness();

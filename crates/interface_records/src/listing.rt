@@ -1,4 +1,4 @@
-//! Lists of what tells records from the others of the interface.
+//! Lists of records of an interface, by their openers.
 ghost use Rattle.std.specs.Prelude.{◌≡◌, ◌++◌, IfOk, OnOk};
 ghost use Rattle.interface_records.specs.Listing.{openers_at, slot_opener};
 ghost use Rattle.interface_records.specs.Stamped.{at};

@@ -17,8 +17,8 @@ pub struct Rec {
     pub count: u32,
 }
 
-/// What tells a record from the others of its interface: the agent, the controller, or 0 if it is open for
-/// none, and the bits of the attribute.
+/// What a record is found by: its agent, its controller, or 0 if it is open for none, and the bits of its
+/// attribute. No two records of an interface have the same.
 pub type Opener = (u64, u64, u32);
 
 /// Which records are meant: those of an agent, if one is given, and for a controller, if one is given, that
@@ -34,7 +34,7 @@ pub struct Meant {
 }
 
 impl Rec {
-    /// What tells it from the others of its interface.
+    /// Its opener.
     pub fn opener(&self) -> Opener
         ensures { result ≡ opener_of self.now }
     {

@@ -73,10 +73,10 @@ fn are(rt: &impl Abort, records: &[Rec], openers: &[Opener]) {
     }
 }
 
-/// Some openers are told, each once.
-fn are_told(rt: &impl Abort, openers: &[Opener], told: &[Opener]) {
-    assert_eq!(rt; openers.len(), told.len());
-    for opener in told {
+/// Some openers are listed, each once.
+fn are_listed(rt: &impl Abort, openers: &[Opener], wanted: &[Opener]) {
+    assert_eq!(rt; openers.len(), wanted.len());
+    for opener in wanted {
         assert!(rt; openers.contains(opener));
     }
 }
@@ -105,8 +105,8 @@ fn there_and_back(
     meant: &Meant,
     left: &[Opener],
 ) -> Result<(), OutOfMemory> {
-    let told = records.openers_meant(meant)?;
-    let taken = take_all(alloc, records, told.as_slice())?;
+    let found = records.openers_meant(meant)?;
+    let taken = take_all(alloc, records, found.as_slice())?;
     are(rt, records.list()?.as_slice(), left);
     put_all(rt, records, taken.as_slice())?;
     are(rt, records.list()?.as_slice(), &OPENERS);
@@ -152,8 +152,8 @@ fn named_and_children(rt: HostRuntime) -> Result<(), Fail> {
         records.children()?.as_slice(),
         &[(5, 8, 0x08), (5, 7, 0x08)],
     );
-    let told = records.openers_named(5)?;
-    let taken = take_all(rt.alloc(), &mut records, told.as_slice())?;
+    let found = records.openers_named(5)?;
+    let taken = take_all(rt.alloc(), &mut records, found.as_slice())?;
     are(
         &rt,
         records.list()?.as_slice(),
@@ -164,9 +164,9 @@ fn named_and_children(rt: HostRuntime) -> Result<(), Fail> {
     Ok(())
 }
 
-/// What tells the records that are meant, and those that name a handle; the chosen go.
+/// The openers of the records that are meant, and of those that name a handle; the chosen go.
 #[test]
-fn told_and_dropped(rt: HostRuntime) -> Result<(), Fail> {
+fn listed_and_dropped(rt: HostRuntime) -> Result<(), Fail> {
     let mut records = InterfaceRecords::new(rt.alloc());
     six(&rt, &mut records)?;
     let for_controller = Meant {
@@ -174,11 +174,11 @@ fn told_and_dropped(rt: HostRuntime) -> Result<(), Fail> {
         controller: Some(9),
         bits: Attr::AGENT_BITS,
     };
-    let told = records.openers_meant(&for_controller)?;
-    are_told(&rt, told.as_slice(), &[(5, 9, 0x10)]);
-    let told = records.openers_named(5)?;
+    let found = records.openers_meant(&for_controller)?;
+    are_listed(&rt, found.as_slice(), &[(5, 9, 0x10)]);
+    let found = records.openers_named(5)?;
     let of_five = [(5, 9, 0x10), (5, 8, 0x08), (5, 7, 0x08), (6, 5, 0x04)];
-    are_told(&rt, told.as_slice(), &of_five);
+    are_listed(&rt, found.as_slice(), &of_five);
     let named = Named { name: 5 };
     assert!(rt; records.any(&named));
     records.drop_chosen(&named);
@@ -187,7 +187,7 @@ fn told_and_dropped(rt: HostRuntime) -> Result<(), Fail> {
     Ok(())
 }
 
-/// Where another record came to be under a record's stamp, all get new stamps.
+/// If another record came to be under a record's stamp, all get new stamps.
 #[test]
 fn put_where_another_came_to_be(rt: HostRuntime) -> Result<(), Fail> {
     let mut records = InterfaceRecords::new(rt.alloc());

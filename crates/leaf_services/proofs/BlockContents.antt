@@ -70,7 +70,7 @@ names_at at protocols =
     let count : length (names_in protocols) ≡ length protocols = length-map protocols name in
     rw (count, names) refl
 
--- the same behind other bytes
+-- the same after other bytes
 pub names_after : (before : List ℕ) (at : ℕ) (protocols : List (List ℕ × ℕ × ℕ)) → (before ++ number_bytes (name_places at (length protocols))) ++ names_alone protocols ≡ before ++ names_bytes at (names_in protocols)
 names_after before at protocols =
     append_assoc before (number_bytes (name_places at (length protocols))) (names_alone protocols) ∙ ap (λ (bytes : List ℕ). before ++ bytes) (names_at at protocols)

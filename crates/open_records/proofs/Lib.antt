@@ -8,5 +8,5 @@ pub mod PuttingBackLemmas
 pub mod TakingLemmas
 pub mod CountingBackLemmas
 pub mod AskingLemmas
-pub mod TellingLemmas
+pub mod ListingLemmas
 pub mod PickedLemmas

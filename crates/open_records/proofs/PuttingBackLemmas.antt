@@ -71,7 +71,7 @@ module _ (new : KeyedRecord) (entries whole : List KeyedRecord) (parts : Between
       ap (list_any (clash new)) parts.was ∙ list_any-append (clash new) parts.front parts.back
       ∙ or_from (list_any (clash new) parts.front) (list_any (clash new) parts.back) (any_same (clash new) (λ (one : KeyedRecord). clash one new) parts.front (λ one. clash_swap new one) ∙ each.0) each.1
 
--- a record that is put in its place again stands between what is not after it and what is not before it
+-- a record that is put in its place again is between what is not after it and what is not before it
 taken_between : (handle : ℕ) (guid : List ℕ) (taken : Taken) (entries : List KeyedRecord) → rise entries ≡ true → Between (keyed (handle, guid) taken.rec) entries (put_taken handle guid taken entries)
 taken_between handle guid taken entries rising =
     let here : Interface = (handle, guid) in

@@ -7,7 +7,7 @@
 //! those of the list that are of it. `judge` says whether one more open is entered, and if it has to wait,
 //! which driver has to be disconnected first.
 //!
-//! All records stand in a table (`record_table`), in which each interface has those of its own as one value.
+//! All records are in a table (`record_table`), in which each interface has those of its own as one value.
 #![tactic(auto)]
 
 mod adding;
@@ -17,10 +17,10 @@ mod finding;
 mod found;
 mod laws;
 mod leaving;
+mod listing;
 mod managing;
 mod records;
 mod removal;
-mod telling;
 mod undoing;
 mod uses;
 mod verdict;

@@ -1,7 +1,7 @@
 //! The records of an interface, beside a copy of those that stay when the weak ones go.
 ghost use Rattle.std.specs.Prelude.{◌≡◌, ◌∷◌, ◌++◌, [], false, true, not, IfOk, IfSome, MatchOption, OnOk, OnErr, filter, find, length, map, if◌then◌else◌};
 ghost use Rattle.std.specs.List.{list_all, list_any};
-ghost use Rattle.interface_records.specs.Listing.{Tell};
+ghost use Rattle.interface_records.specs.Listing.{Lists};
 ghost use Rattle.interface_records.specs.Records.{IsNew, has_bits, is_asked, is_by, is_for_child, is_named, is_strong, recounted, stand_apart};
 ghost use Rattle.interface_records.specs.Undoing.{put_again};
 ghost use Rattle.interface_records.specs.declared.open_record.Rec.{Rec as RecValue};
@@ -112,7 +112,7 @@ impl PartedRecords {
         self.all.has_named(name)
     }
 
-    /// Whether each record has one of some bits, as where all of them are meant. Takes no memory.
+    /// Whether each record has one of some bits, as when all bits are meant. Takes no memory.
     pub fn have_bits(&self, bits: u32) -> bool
         ensures { result ≡ list_all (has_bits bits) self.now }
     {
@@ -127,24 +127,24 @@ impl PartedRecords {
         self.all.soundness();
     }
 
-    /// What tells the records that are meant from the others.
+    /// The openers of the records that are meant.
     ///
     /// # Errors
     ///
     /// `OutOfMemory` if there is no memory for the list.
     pub fn openers_meant(&self, meant: &Meant) -> Result<Vec<Opener>, OutOfMemory>
-        ensures { IfOk result (λ openers. Tell openers.items (is_asked meant.now) self.now) }
+        ensures { IfOk result (λ openers. Lists openers.items (is_asked meant.now) self.now) }
     {
         self.all.openers_meant(meant)
     }
 
-    /// What tells the records that name a handle from the others. One may be told twice.
+    /// The openers of the records that name a handle. One may be listed twice.
     ///
     /// # Errors
     ///
     /// `OutOfMemory` if there is no memory for the list.
     pub fn openers_named(&self, name: u64) -> Result<Vec<Opener>, OutOfMemory>
-        ensures { IfOk result (λ openers. Tell openers.items (is_named name) self.now) }
+        ensures { IfOk result (λ openers. Lists openers.items (is_named name) self.now) }
     {
         self.all.openers_named(name)
     }
@@ -213,8 +213,8 @@ impl PartedRecords {
         Ok(())
     }
 
-    /// Takes out the weak records, if there is a copy of the others at hand or there are no others, and answers all
-    /// that there were. Takes no memory, and looks at no record.
+    /// Takes out the weak records, if there is a copy of the others or there are none, and answers all that
+    /// there were. Takes no memory, and looks at no record.
     pub fn take_weak(&mut self) -> Option<InterfaceRecords>
         ensures { MatchOption result (self.new ≡ self.old) (λ whole. (whole ≡ self.old) × (self.new ≡ lasting self.old)) }
     {
@@ -227,8 +227,8 @@ impl PartedRecords {
         }
     }
 
-    /// Puts in the weak records again, where the others are as they were when the weak ones had been taken out. Takes
-    /// no memory, and looks at no record.
+    /// Puts in the weak records again. The others are as they were when the weak ones had been taken out. Takes no
+    /// memory, and looks at no record.
     pub fn put_weak(&mut self, whole: InterfaceRecords)
         requires { self.old ≡ lasting whole }
         ensures { self.new ≡ whole }

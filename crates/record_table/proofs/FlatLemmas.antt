@@ -124,7 +124,7 @@ all_rise (e ∷ es) up =
     no_pair-append falls (map (keyed e.0) e.1) (all_records es) (row_rise e.0 e.1) (all_rise es parts.1)
     (row_none e.0 (λ (x : KeyedRecord). list_any (falls x) (all_records es)) (λ rec. none_below es e.0 parts.0 parts.1 rec) e.1)
 
--- ---- a rising list is told by the records of each interface
+-- ---- a rising list is given by the records of each interface
 
 -- the records of an interface, with the interface again
 pub of_records : (handle : ℕ) (guid : List ℕ) (entries : List KeyedRecord) → filter (is_of handle guid) entries ≡ map (keyed (handle, guid)) (records_of entries handle guid)

@@ -183,7 +183,7 @@ changed_more f [] i x within here = absurd (omega arith)
 changed_more f (y ∷ xs) zero x within here = ap (λ z. f z ∷ xs) here
 changed_more f (y ∷ xs) (suc i) x within here = ap (λ l. f y ∷ l) (changed_more f xs i x (omega arith) here)
 
--- what stands at the place is not changed yet
+-- what is at the place is not changed yet
 pub changed_at : {X : Type 0} (f : X → X) (xs : List X) (i : ℕ) (d : X) → i < length xs → get_or (map f (take i xs) ++ drop i xs) i d ≡ get_or xs i d
 changed_at f [] i d within = absurd (omega arith)
 changed_at f (y ∷ xs) zero d within = refl

@@ -2,7 +2,7 @@
 use Rattle.std.proofs.Common.{◌≡◌, ◌+◌, ◌≤◌, ℕ, Bool, true, false, not, ◌&&◌, List, [], ◌∷◌, length, filter, map, refl, sym, ap, ◌∙◌, inl, inr, arith}
 use Rattle.std.specs.List.{list_any}
 use Rattle.std.proofs.lemmas.Bool.{cases_Bool}
-use Rattle.interface_records.specs.Listing.{Tell}
+use Rattle.interface_records.specs.Listing.{Lists}
 use Rattle.interface_records.specs.Records.{Opener, is_named}
 use Rattle.interface_records.specs.declared.open_record.Rec.{Rec}
 use Rattle.record_table.specs.Interfaces.{Changes, Interface, Interfaces, all_records, ascend, is_on, keyed, records_at}
@@ -27,7 +27,7 @@ module _ (interfaces : Interfaces) (up : ascend interfaces.entries ≡ true) whe
   pub records_here : (interface : Interface) → records_of (all_records interfaces.entries) interface.0 interface.1 ≡ records_at interfaces interface
   records_here interface = ap (map (λ (one : KeyedRecord). one.rec)) (of_whole interface) ∙ recs_keyed interface (records_at interfaces interface)
 
-  -- all records are told by those at each interface
+  -- all records are given by those of each interface
   pub whole_is : (entries : List KeyedRecord) → rise entries ≡ true → ((interface : Interface) → records_of entries interface.0 interface.1 ≡ records_at interfaces interface) → all_records interfaces.entries ≡ entries
   whole_is entries rising same = same_by_records (all_records interfaces.entries) entries (all_rise interfaces.entries up) rising (λ h g. records_here (h, g) ∙ sym (same (h, g)))
 
@@ -125,5 +125,5 @@ any_mapped p f same (x ∷ xs) some = elim (cases_Bool (p x)) [
 ]
 
 -- where there are no records, none are listed
-pub tell_none : (test : Rec → Bool) (openers : List Opener) (records : List Rec) → openers ≡ [] → records ≡ [] → Tell openers test records
-tell_none test openers records none empty = rw (none, empty) (record { only = λ rec is. absurd cc; all = refl })
+pub lists_none : (test : Rec → Bool) (openers : List Opener) (records : List Rec) → openers ≡ [] → records ≡ [] → Lists openers test records
+lists_none test openers records none empty = rw (none, empty) (record { only = λ rec is. absurd cc; all = refl })

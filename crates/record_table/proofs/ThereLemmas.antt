@@ -119,9 +119,9 @@ module _ (interfaces : Interfaces) (up : ascend interfaces.entries ≡ true) whe
     abbrev namer : KeyedRecord → Bool
     namer one = is_named name one.rec
 
-    -- a record of an interface of which no name tells is none
-    not_told : (test : KeyedRecord → Bool) → ((one : KeyedRecord) → test one ≡ true → namer one ≡ true) → (found : Passes test whole) → covers names name (interface_of found.one) ≡ true
-    not_told test implies found =
+    -- no record is of an interface that is not covered
+    not_covered : (test : KeyedRecord → Bool) → ((one : KeyedRecord) → test one ≡ true → namer one ≡ true) → (found : Passes test whole) → covers names name (interface_of found.one) ≡ true
+    not_covered test implies found =
         let i = interface_of found.one in
         let some : list_any (λ (other : KeyedRecord). is_on i other && namer other) whole ≡ true =
         any_more (λ other. is_on i other && test other) (λ other. is_on i other && namer other) whole (λ x both. let parts = and_parts (is_on i x) (test x) both in and_from (is_on i x) (namer x) parts.0 (implies x parts.1)) found.there in
@@ -142,35 +142,35 @@ module _ (interfaces : Interfaces) (up : ascend interfaces.entries ≡ true) whe
         not_it true is = absurd cc
         not_it false is = refl
 
-    -- no name tells of one
+    -- no interface is covered
     pub none_named : NoneNamed name from names → list_any (passes_from (λ (one : KeyedRecord). is_named name one.rec) from) (all_records interfaces.entries) ≡ false
     none_named none = false_from_ne_true (list_any late whole)
         (λ some.
         let found = passes_by late whole some in
-        both_ways (covers names name (interface_of found.one)) (none (interface_of found.one) (parts_of found.one found.passes).1) (not_told late (λ one is. (parts_of one is).0) found))
+        both_ways (covers names name (interface_of found.one)) (none (interface_of found.one) (parts_of found.one found.passes).1) (not_covered late (λ one is. (parts_of one is).0) found))
 
-    module _ (told : Interface) (first : IsFirstNamed name from told names) where
-      -- before the interface that a name tells of there is none, nor from there on up to the first that has records
-      not_between : (one : KeyedRecord) → late one ≡ true → covers names name (interface_of one) ≡ true → is_lt (interface_cmp (interface_of one) told) ≡ false
+    module _ (earliest : Interface) (first : IsFirstNamed name from earliest names) where
+      -- before the earliest interface that is covered there is none, nor from there on up to the first that has records
+      not_between : (one : KeyedRecord) → late one ≡ true → covers names name (interface_of one) ≡ true → is_lt (interface_cmp (interface_of one) earliest) ≡ false
       not_between one is said =
-          false_from_ne_true (is_lt (interface_cmp (interface_of one) told)) (λ early. both_ways (covers names name (interface_of one)) (first.first (interface_of one) (parts_of one is).1 early) said)
+          false_from_ne_true (is_lt (interface_cmp (interface_of one) earliest)) (λ early. both_ways (covers names name (interface_of one)) (first.first (interface_of one) (parts_of one is).1 early) said)
 
-      pub none_from : NoneFrom told interfaces → list_any (passes_from (λ (one : KeyedRecord). is_named name one.rec) from) (all_records interfaces.entries) ≡ false
+      pub none_from : NoneFrom earliest interfaces → list_any (passes_from (λ (one : KeyedRecord). is_named name one.rec) from) (all_records interfaces.entries) ≡ false
       none_from none = false_from_ne_true (list_any late whole)
           (λ some.
           let found = passes_by late whole some in
-          let said = not_told late (λ one is. (parts_of one is).0) found in
+          let said = not_covered late (λ one is. (parts_of one is).0) found in
           both_ways (is_there interfaces (interface_of found.one)) (none (interface_of found.one) (not_between found.one found.passes said)) (found_there late found))
 
-      pub named_from : AllFilled interfaces → (interface : Interface) → IsFrom told interface interfaces → IsNextOn (λ (one : KeyedRecord). is_named name one.rec) from interface (all_records interfaces.entries)
+      pub named_from : AllFilled interfaces → (interface : Interface) → IsFrom earliest interface interfaces → IsNextOn (λ (one : KeyedRecord). is_named name one.rec) from interface (all_records interfaces.entries)
       named_from all interface next = record {
         has = some_on all interface next.has;
-        from_on = false_from_ne_true (is_lt (interface_cmp interface from)) (λ early. both_ways (is_lt (interface_cmp interface told)) next.from_on (lt_le interface from told early first.from_on));
+        from_on = false_from_ne_true (is_lt (interface_cmp interface from)) (λ early. both_ways (is_lt (interface_cmp interface earliest)) next.from_on (lt_le interface from earliest early first.from_on));
         first = false_from_ne_true (list_any between whole)
             (λ some.
             let found = passes_by between whole some in
             let parts = and_parts (late found.one) (is_before interface.0 interface.1 found.one) found.passes in
-            let said = not_told between (λ one is. (parts_of one (and_parts (late one) (is_before interface.0 interface.1 one) is).0).0) found in
+            let said = not_covered between (λ one is. (parts_of one (and_parts (late one) (is_before interface.0 interface.1 one) is).0).0) found in
             both_ways (is_there interfaces (interface_of found.one)) (next.first (interface_of found.one) (not_between found.one parts.0 said) parts.1) (found_there between found));
       }
         where
@@ -190,8 +190,8 @@ module _ (interfaces : Interfaces) (up : ascend interfaces.entries ≡ true) whe
   after_by all past None none = none_after interfaces up past none
   after_by all past (Some interface) next = next_of interfaces up all past interface next
 
-  pub named_by : (names : Names) (named : AreNamed names interfaces) (name : ℕ) (from told : Interface) → IsFirstNamed name from told names → AllFilled interfaces → (found : Option Interface)
-      → MatchOption found (NoneFrom told interfaces) (λ interface. IsFrom told interface interfaces)
+  pub named_by : (names : Names) (named : AreNamed names interfaces) (name : ℕ) (from earliest : Interface) → IsFirstNamed name from earliest names → AllFilled interfaces → (found : Option Interface)
+      → MatchOption found (NoneFrom earliest interfaces) (λ interface. IsFrom earliest interface interfaces)
       → MatchOption found (list_any (passes_from (λ (one : KeyedRecord). is_named name one.rec) from) (all_records interfaces.entries) ≡ false) (λ interface. IsNextOn (λ (one : KeyedRecord). is_named name one.rec) from interface (all_records interfaces.entries))
-  named_by names named name from told first all None none = none_from interfaces up names named name from told first none
-  named_by names named name from told first all (Some interface) next = named_from interfaces up names named name from told first all interface next
+  named_by names named name from earliest first all None none = none_from interfaces up names named name from earliest first none
+  named_by names named name from earliest first all (Some interface) next = named_from interfaces up names named name from earliest first all interface next

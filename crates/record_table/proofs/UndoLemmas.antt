@@ -20,7 +20,7 @@ use Rattle.record_table.proofs.MapLemmas.{same_interface}
 use Rattle.std.proofs.lemmas.Bool.{cases_Bool}
 
 module _ (old new : Interfaces) (up : ascend old.entries ≡ true) (interface : Interface) where
-  -- what stands at an interface again gives all records again
+  -- what is at an interface again gives all records again
   again : (records : List Rec) → Changes interface records old new → (back : List Rec) → back ≡ records_at old interface → with_interface interface.0 interface.1 back (all_records new.entries) ≡ all_records old.entries
   again records changes back is =
       let rising = all_rise new.entries changes.ordered in

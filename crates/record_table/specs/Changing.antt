@@ -1,4 +1,4 @@
--- All records, where those of one interface change.
+-- All records, when those of one interface change.
 use Rattle.std.specs.Prelude.{ℕ, ◌+◌, ◌-◌, ◌^◌, Bool, ◌&&◌, min, List, ◌∷◌, ◌++◌, map, filter, Option, Some, None, if◌then◌else◌}
 use Rattle.fw_types.specs.declared.attr.TheConstants.Attr.{WEAK_BITS}
 use Rattle.interface_records.specs.Records.{has_bits, is_equal}
@@ -17,7 +17,7 @@ with_new new entries =
     filter (is_before new.handle new.guid) entries
     ++ (filter (is_of new.handle new.guid) entries ++ new ∷ filter (is_after new.handle new.guid) entries)
 
--- all records, where an interface has these: they are between those of the interfaces before and after
+-- all records, if an interface has these: they are between those of the interfaces before and after
 abbrev pub with_interface : ℕ → List ℕ → List Rec → List KeyedRecord → List KeyedRecord
 with_interface handle guid records entries =
     filter (is_before handle guid) entries ++ (map (keyed (handle, guid)) records ++ filter (is_after handle guid) entries)
@@ -44,7 +44,7 @@ raised rec = record rec { count = min (rec.count + 1) most }
 abbrev pub raised_where : (Rec → Bool) → Rec → Rec
 raised_where test rec = if test rec then raised rec else rec
 
--- all records, where those that are of an interface and pass a test count one more open
+-- all records, of which those that are of an interface and pass a test count one more open
 abbrev pub with_raised : ℕ → List ℕ → (Rec → Bool) → List KeyedRecord → List KeyedRecord
 with_raised handle guid test entries =
     map (λ (one : KeyedRecord). if is_of handle guid one && test one.rec then record one { rec = raised one.rec } else one) entries

@@ -69,7 +69,7 @@ is_filled (Some records) = nat_lt 0 (length records)
 abbrev pub AllFilled : Interfaces → Type 0
 AllFilled interfaces = (interface : Interface) → is_filled (tree.get interface_cmp interfaces interface) ≡ true
 
--- each interface that is there has a record, but for one
+-- each interface that is there has a record, except one
 abbrev pub OthersFilled : Interface → Interfaces → Type 0
 OthersFilled interface interfaces = (other : Interface) → tree.is_at (interface_cmp interface) other ≡ false → is_filled (tree.get interface_cmp interfaces other) ≡ true
 

@@ -15,7 +15,7 @@ abbrev pub is_asked : ℕ → Option ℕ → Bool
 is_asked name None = false
 is_asked name (Some asked) = nat_eq name asked
 
--- whether records of interfaces that were put back as a whole may name a handle where no entry says so
+-- whether records of interfaces that were put back as a whole may name a handle although no entry says so
 abbrev pub is_open : Names → ℕ → Bool
 is_open names name = nat_le name names.largest && not (is_asked name names.asked)
 
@@ -31,7 +31,7 @@ covers names name interface = set.contains naming_cmp names.named (name, interfa
 abbrev pub SaysMore : (old new : Names) → Type 0
 SaysMore old new = (name : ℕ) (interface : Interface) → covers old name interface ≡ true → covers new name interface ≡ true
 
--- the same, but for one interface
+-- the same, except for one interface
 abbrev pub SaysMoreElsewhere : Interface → (old new : Names) → Type 0
 SaysMoreElsewhere interface old new =
     (name : ℕ) (other : Interface) → tree.is_at (interface_cmp interface) other ≡ false → covers old name other ≡ true → covers new name other ≡ true

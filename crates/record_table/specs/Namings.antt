@@ -37,7 +37,7 @@ AreEntered name some interfaces named =
 abbrev pub AllStay : (old new : set.BTreeSet Naming) → Type 0
 AllStay old new = (q : Naming) → set.contains naming_cmp old q ≡ true → set.contains naming_cmp new q ≡ true
 
--- the same, but for one
+-- the same, except for one
 abbrev pub OthersStay : Naming → (old new : set.BTreeSet Naming) → Type 0
 OthersStay entry old new = (q : Naming) → tree.is_at (naming_cmp entry) q ≡ false → set.contains naming_cmp old q ≡ true → set.contains naming_cmp new q ≡ true
 

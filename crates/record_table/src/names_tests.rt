@@ -58,7 +58,7 @@ fn whole_of(rt: &impl Abort, alloc: Global, many: u64) -> Result<InterfaceRecord
     Ok(records)
 }
 
-/// What is forgotten of a handle where no record names it: no clause says that anything is.
+/// What is forgotten of a handle that no record names: no clause says that anything is.
 #[test]
 fn stale_names(rt: HostRuntime) -> Result<(), Fail> {
     let interfaces = one_of(rt.alloc(), handle(&rt, 50), rec_of(&rt, 7, 8))?;

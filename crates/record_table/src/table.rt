@@ -5,7 +5,7 @@ ghost use Rattle.std.specs.List.{list_any};
 ghost use Rattle.record_table.specs.Changing.{is_weak_on, with_new, with_raised, count_in, counted, is_open, put_taken, with_interface};
 ghost use Rattle.parted_records.specs.Parting.{IsFit, lasting};
 ghost use Rattle.interface_records.specs.Records.{is_meant, is_named, is_asked, is_for_child, is_equal, is_strong};
-ghost use Rattle.interface_records.specs.Listing.{Tell};
+ghost use Rattle.interface_records.specs.Listing.{Lists};
 ghost use Rattle.record_table.specs.Keyed.{is_after, is_of, records_of, rise};
 ghost use Rattle.record_table.specs.Walking.{IsNextOn, passes_from};
 ghost use Rattle.record_table.specs.Table.{IsFirstOf, IsNew, IsNextOf};
@@ -242,14 +242,14 @@ impl Table {
         }
     }
 
-    /// What tells those of an interface's records that are meant from the others.
+    /// The openers of those of an interface's records that are meant.
     pub fn openers_meant(
         &self,
         handle: Handle,
         guid: Guid,
         meant: &Meant,
     ) -> Result<Vec<Opener>, OutOfMemory>
-        ensures { IfOk result (λ openers. Tell openers.items (is_asked meant.now) (records_of self.now handle guid)) }
+        ensures { IfOk result (λ openers. Lists openers.items (is_asked meant.now) (records_of self.now handle guid)) }
     {
         match self.interfaces.get(&(handle, guid)) {
             None => Ok(Vec::new(self.alloc)),
@@ -257,14 +257,14 @@ impl Table {
         }
     }
 
-    /// What tells those of an interface's records that name a handle from the others.
+    /// The openers of those of an interface's records that name a handle.
     pub fn openers_named(
         &self,
         handle: Handle,
         guid: Guid,
         name: u64,
     ) -> Result<Vec<Opener>, OutOfMemory>
-        ensures { IfOk result (λ openers. Tell openers.items (is_named name) (records_of self.now handle guid)) }
+        ensures { IfOk result (λ openers. Lists openers.items (is_named name) (records_of self.now handle guid)) }
     {
         match self.interfaces.get(&(handle, guid)) {
             None => Ok(Vec::new(self.alloc)),
@@ -352,7 +352,7 @@ impl Table {
         prepare_at(&mut self.interfaces, (handle, guid), going);
     }
 
-    /// Forgets what is said of handles that no record names, where that is much.
+    /// Forgets what is said of handles that no record names, if that is much.
     pub fn tidy(&mut self)
         ensures { self.new ≡ self.old }
     {

@@ -63,7 +63,7 @@ CanTake None name db = (is_full db ≡ false) × (list_any (is_handle db.next) d
 CanTake (Some handle) name db =
     (is_live handle db ≡ true) × (has handle name db ≡ false) × (nat_le MOST_INTERFACES (length (interfaces_of handle db)) ≡ false)
 
--- it is, and stands behind those that were there
+-- it is, and comes after those that were there
 record Took (handle : Option ℕ) (new : Interface) (db : Database) (number : ℕ) : Type 0 where
   answer : install_answer handle new.guid db ≡ Ok number
   behind : interfaces_of number (installed handle new db) ≡ listed handle db ++ new ∷ []

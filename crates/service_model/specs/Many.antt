@@ -27,7 +27,7 @@ pair_place list i = (list + 16 * i) % 2 ^ 64
 abbrev pub interface_place : (list i : ℕ) → ℕ
 interface_place list i = (list + 16 * i + 8) % 2 ^ 64
 
--- How many pairs come before a 0, and whether one follows them, where `done` were read before and at most
+-- How many pairs come before a 0, and whether one follows them, if `done` were read before and at most
 -- so many more are read. Of one pair more only the pointer is read.
 unfoldable pub pairs_before : (most done list : ℕ) → State → Result (ℕ × Bool) Stop
 pairs_before zero done list w = number (pair_place list done) w >>= λ pointer. Ok (done, null pointer)

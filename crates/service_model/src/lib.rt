@@ -7,7 +7,7 @@
 //! language of `specs/Words.antt`: a row looks at the arguments and at the state, and then ends with a
 //! change or stops. `specs/Changes.antt` applies the change, and
 //! `specs/Contents.antt` has the bytes that a service returns in a block. `laws` says what services
-//! leave. Code stands here only where definitions and code share a plain type or number.
+//! leave. There is code only where definitions and code share a plain type or number.
 #![tactic(auto)]
 
 mod call;

@@ -754,7 +754,7 @@ fn is_new_block(segment: &Segment, next_block: u64) -> bool
         && segment.bytes.as_slice().len() > IMAGE_BLOCK_SIZE
 }
 
-/// Takes a change back. On want of memory there is no way back to any mark, so all are given up.
+/// Takes a change back. If memory is out there is no way back to any mark, so all are given up.
 ///
 /// # Errors
 ///

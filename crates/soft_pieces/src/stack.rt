@@ -126,11 +126,11 @@ pub fn levels_with_stack(memory: &Memory) -> [bool; 33]
     ensures { (level : ℕ) → level ≤ most_levels →
         slice_index_or result level false ≡ has_stack level memory.now }
 {
-    let mut stands = [false; 33];
+    let mut has_stack = [false; 33];
     for level in 0..33 {
-        stands[usize::from(level)] = memory.begins(SegKind::Stack, stack_base(level));
+        has_stack[usize::from(level)] = memory.begins(SegKind::Stack, stack_base(level));
     }
-    stands
+    has_stack
 }
 
 /// Unmaps the stack of a level and its list of children, if they are there.

@@ -123,7 +123,7 @@ impl<C, P> Log<C, P> {
         }
     }
 
-    /// Closes all marks and drops all changes, where want of memory leaves no way back. Takes no memory.
+    /// Closes all marks and drops all changes, if there is no way back since memory is out. Takes no memory.
     pub fn clear(&mut self)
     where
         C: Drop,

@@ -67,7 +67,7 @@ pub bases-unmapped_other : (of : SegKind) (base : ℕ) (segments : List Segment)
 bases-unmapped_other of base [] none = refl
 bases-unmapped_other of base (s ∷ rest) none = unmapped-more of base s rest (nat_eq s.base base) refl none (bases-unmapped_other of base rest)
 
--- no segment of those that lie behind an address begins before it
+-- no segment of those that lie after an address begins before it
 other_behind : (of : SegKind) (base from : ℕ) (segments : List Segment) → lie_from from segments ≡ true → base < from → filter (λ (b : ℕ). not (nat_eq b base)) (bases of segments) ≡ bases of segments
 other_behind of base from [] lies behind = refl
 other_behind of base from (s ∷ rest) lies behind =
@@ -109,7 +109,7 @@ bases-unmapped of base from (s ∷ rest) lies =
 
 -- ---- images
 
--- an image that lies right and begins at or behind the next image's address is none
+-- an image that lies right and begins at or after the next image's address is none
 none_behind-more : (next block : ℕ) (s : Segment) → is_placed next block s ≡ true → next ≤ s.base → is_of kind.Image s ≡ false
 none_behind-more next block s right behind = none next block s.kind s.base (length s.bytes) right behind
   where
@@ -120,7 +120,7 @@ none_behind-more next block s right behind = none next block s.kind s.base (leng
     none next block kind.Stack base size right behind = refl
     none next block kind.Table base size right behind = refl
 
--- segments behind the next image's address have no image among them
+-- segments after the next image's address have no image among them
 none_behind : (next block from : ℕ) (segments : List Segment) → list_all (is_placed next block) segments ≡ true → lie_from from segments ≡ true → next ≤ from → bases kind.Image segments ≡ []
 none_behind next block from [] placed lies behind = refl
 none_behind next block from (s ∷ rest) placed lies behind =
@@ -130,7 +130,7 @@ none_behind next block from (s ∷ rest) placed lies behind =
     bases-cons kind.Image false s rest (none_behind-more next block s parts.0 (omega arith))
     ∙ none_behind next block (end_of s) rest parts.1 order.1 (omega arith)
 
--- an image at the next image's address comes behind all others
+-- an image at the next image's address comes after all others
 pub bases-mapped_image : (next block from : ℕ) (new : Segment) (segments : List Segment) → list_all (is_placed next block) segments ≡ true → lie_from from segments ≡ true → is_of kind.Image new ≡ true → new.base ≡ next
     → bases kind.Image (mapped new segments) ≡ bases kind.Image segments ++ new.base ∷ []
 bases-mapped_image next block from new [] placed lies is at = bases-cons kind.Image true new [] is

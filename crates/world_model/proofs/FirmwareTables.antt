@@ -14,7 +14,7 @@ use Rattle.guest_memory.specs.declared.address_map.TheConstants.{FIRMWARE_IMAGE}
 use Rattle.world_model.specs.Tables.{tables}
 use Rattle.world_model.proofs.Segments.{mapped-behind, unmapped-behind}
 
--- what is written is behind segments that can't be written
+-- what is written is after segments that can't be written
 front-written-more : (s : Segment) (rest : List Segment) (at n value : ℕ) (has : Bool) → has_bytes s at n ≡ has → is_writable s.kind ≡ false → write_answer (s ∷ rest) at n ≡ Ok tt
     → (write_answer rest at n ≡ Ok tt) × (cond has (with_number s at n value ∷ rest) (s ∷ written rest at n value) ≡ s ∷ written rest at n value)
 front-written-more s rest at n value true is fixed done =
@@ -35,7 +35,7 @@ written-behind (s ∷ front) rest at n value fixed done =
 split : (memory : List Segment) → take 4 memory ≡ tables → memory ≡ tables ++ drop 4 memory
 split memory front = sym (take-append-drop 4 memory) ∙ ap (λ first. first ++ drop 4 memory) front
 
--- what lies behind the tables is mapped behind them
+-- what lies after the tables is mapped after them
 pub tables-mapped : (memory : List Segment) (new : Segment) → take 4 memory ≡ tables → FIRMWARE_IMAGE < new.base → take 4 (mapped new memory) ≡ tables
 tables-mapped memory new front behind =
     let before : list_all (λ (s : Segment). nat_lt s.base new.base) tables ≡ true = grind (arith, nat_tests) in

@@ -38,7 +38,7 @@ putting segments at bytes can = fixed-put_bytes segments at bytes can
 
 -- ---- mapping
 
--- segments that lie from an address on begin there or behind it
+-- segments that lie from an address on begin there or after it
 pub all_from : (low from : ℕ) (segments : List Segment) → lie_from from segments ≡ true → low ≤ from → list_all (λ (s : Segment). nat_le low s.base) segments ≡ true
 all_from low from [] lies le = refl
 all_from low from (s ∷ rest) lies le =

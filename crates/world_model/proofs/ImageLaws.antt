@@ -11,7 +11,7 @@ use Rattle.world_model.specs.ImageLaws.{AddedIsFound}
 use Rattle.world_model.proofs.Segments.{list_all-mono}
 use Rattle.world_model.proofs.ImageLists.{all_between, is_between}
 
--- behind images of other handles
+-- after images of other handles
 found_behind : (images : List LoadedImage) (new : LoadedImage) → list_all (λ (i : LoadedImage). not (nat_eq i.handle new.handle)) images ≡ true → image_of new.handle (images ++ new ∷ []) ≡ Some new
 found_behind [] new others = let same : nat_eq new.handle new.handle ≡ true = grind (arith, nat_tests) in rw same refl
 found_behind (i ∷ images) new others =

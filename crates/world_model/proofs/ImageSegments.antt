@@ -132,7 +132,7 @@ blocks-unmapped base memory images others all =
 
 -- ---- stacks and lists of children
 
--- each list stands beside its stack
+-- each list is beside its stack
 abbrev pub ListsHaveStacks : List Segment → Type 0
 ListsHaveStacks memory = (level : ℕ) → level ≤ MOST_LEVELS → has_list level memory ≡ true → has_stack level memory ≡ true
 

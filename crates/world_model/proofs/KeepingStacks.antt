@@ -139,7 +139,7 @@ pushing soft level slots (handle ∷ handles) kept from to sixteen none few =
 
 -- ---- popping
 
--- without a stack and its list, each list stands beside its stack
+-- without a stack and its list, each list is beside its stack
 lists-popped : (soft : Soft) (level : ℕ) → IsKept soft → ListsHaveStacks (unmapped (unmapped soft.memory (stack_base level)) (list_base level))
 lists-popped soft level kept other to has =
     let memory = soft.memory in

@@ -122,14 +122,14 @@ list_any-written P (s ∷ rest) at n value ignores =
 
 -- ---- a front of segments that stays
 
--- what is mapped behind the front
+-- what is mapped after the front
 pub mapped-behind : (front rest : List Segment) (new : Segment) → list_all (λ (s : Segment). nat_lt s.base new.base) front ≡ true → mapped new (front ++ rest) ≡ front ++ mapped new rest
 mapped-behind [] rest new before = refl
 mapped-behind (s ∷ front) rest new before =
     let parts = and_parts (nat_lt s.base new.base) (list_all (λ (s : Segment). nat_lt s.base new.base) front) before in
     rw (parts.0, mapped-behind front rest new parts.1) refl
 
--- what is unmapped behind it
+-- what is unmapped after it
 pub unmapped-behind : (front rest : List Segment) (base : ℕ) → list_all (λ (s : Segment). nat_lt s.base base) front ≡ true → unmapped (front ++ rest) base ≡ front ++ unmapped rest base
 unmapped-behind [] rest base before = refl
 unmapped-behind (s ∷ front) rest base before =

@@ -136,7 +136,7 @@ begins_from base from (s ∷ rest) one lies found =
     by_head true first found later = let same : s ≡ one = cc in subst (λ (x : Segment). from ≤ x.base) same first
     by_head false first found later = let behind = later found in omega arith
 
--- what a segment has no segment behind it has
+-- what a segment has no segment after it has
 behind_has : (s one : Segment) (at : ℕ) → has_bytes s at 1 ≡ true → end_of s ≤ one.base → has_bytes one at 1 ≡ false
 behind_has s one at has behind = grind (arith, nat_tests)
 

@@ -176,7 +176,7 @@ put_there-none at bytes (s ∷ rest) none =
     let parts = and_parts (not (has_bytes s at (length bytes))) (list_all (λ (s : Segment). not (has_bytes s at (length bytes))) rest) none in
     put_there-none-more at bytes s rest (has_bytes s at (length bytes)) (is_writable s.kind) parts.0 (put_there-none at bytes rest parts.1)
 
--- a segment behind one that has a range has none of it
+-- a segment after one that has a range has none of it
 apart_behind : (s r : Segment) (at n : ℕ) → 0 < n → has_bytes s at n ≡ true → nat_le (end_of s) r.base ≡ true → not (has_bytes r at n) ≡ true
 apart_behind s r at n some has behind = grind (arith, nat_tests, some, has, behind)
 

@@ -42,7 +42,7 @@ has_path_at_most segments = list_all is_path_or_beside segments
 
 -- ---- laws
 
--- where no path is, nothing refuses one
+-- if there is no path, nothing refuses one
 abbrev pub PathFits : Type 0
 PathFits = (soft : Soft) (bytes : List ℕ) → has_no_path soft.memory ≡ true → length bytes ≤ path_room → map_answer soft.memory (path_segment bytes) ≡ Ok tt
 

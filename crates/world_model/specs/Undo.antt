@@ -20,8 +20,8 @@ use Rattle.world_model.specs.Stacks.{has_stack, list_base, stack_base}
 
 -- ---- one change
 
--- The bytes of before are put where they can be. Where no segment that drivers may write has their range, as where a
--- stack lay that is no longer there, nothing changes.
+-- The bytes of before are put where they were. If no segment that drivers may write has their range, as after a stack
+-- went, nothing changes.
 abbrev pub put_if_there : (at : ℕ) → (before : List ℕ) → List Segment → List Segment
 put_if_there at before segments = if is_writable_range segments at (length before) then put_bytes segments at before else segments
 
@@ -94,7 +94,7 @@ without_stacks levels soft = with_memory (filter (λ (segment : Segment). not (i
 
 -- whether a level had a stack
 abbrev pub had_stack : StackLevels → (level : ℕ) → Bool
-had_stack levels level = slice_index_or levels.stands level false
+had_stack levels level = slice_index_or levels.has_stack level false
 
 -- the levels that had none
 abbrev pub later_levels : StackLevels → List ℕ

@@ -214,7 +214,7 @@ PoppedIsLeftOut =
     (soft : Soft) (levels : StackLevels) (level : ℕ) → 0 < level → level ≤ MOST_LEVELS → had_stack levels level ≡ false
     → without_stacks (later_levels levels) (stack_popped level soft) ≡ without_stacks (later_levels levels) soft
 
--- where no later level has a stack, nothing is left out
+-- if no later level has a stack, nothing is left out
 abbrev pub NoneIsLeftOut : Type 0
 NoneIsLeftOut =
     (soft : Soft) (levels : StackLevels) → IsKept soft → ((level : ℕ) → 0 < level → level ≤ MOST_LEVELS → had_stack levels level ≡ false → has_stack level soft.memory ≡ false)

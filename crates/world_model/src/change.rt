@@ -56,7 +56,7 @@ pub enum Change {
         at: u64,
         /// How many bytes it has.
         n: u8,
-        /// The bytes of before, and zeros behind them.
+        /// The bytes of before, and zeros after them.
         before: [u8; 8],
     },
     /// Bytes were put in place of others.

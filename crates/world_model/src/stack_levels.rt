@@ -2,5 +2,5 @@
 #[derive(Clone, Copy)]
 pub struct StackLevels {
     /// Whether a level had one, by its number from 0 on.
-    pub stands: [bool; 33],
+    pub has_stack: [bool; 33],
 }

@@ -54,7 +54,7 @@ impl SoftPart {
         ensures { AreLevelsOf result self.now }
     {
         StackLevels {
-            stands: levels_with_stack(&self.memory),
+            has_stack: levels_with_stack(&self.memory),
         }
     }
 

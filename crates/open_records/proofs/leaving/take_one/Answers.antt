@@ -17,12 +17,12 @@ returns-in-None-clause-fit c =
 
 pub returns-in-Some-clause-back : goal.returns-in-Some-clause-back
 returns-in-Some-clause-back c =
-    let one : Gone = One c.args.told.now.0 c.args.told.now.1 c.in-Some.removed in
+    let one : Gone = One c.args.to_go.now.0 c.args.to_go.now.1 c.in-Some.removed in
     ap (λ (l : List Gone). put_all l c.take.new.self) c.push_reserved.ensures.items ∙ put_more c.args.gone.now.items one c.take.new.self ∙ ap (put_all c.args.gone.now.items) c.in-Some.ensures.taken
 
 pub returns-in-Some-clause-fit : goal.returns-in-Some-clause-fit
 returns-in-Some-clause-fit c =
-    let one : Gone = One c.args.told.now.0 c.args.told.now.1 c.in-Some.removed in
+    let one : Gone = One c.args.to_go.now.0 c.args.to_go.now.1 c.in-Some.removed in
     let Others : List KeyedRecord → Type 0 = λ entries. AreFitting c.args.gone.now.items entries in
     let Fit : List Gone → Type 0 = λ gone. AreFitting gone c.take.new.self in
     subst Fit (sym c.push_reserved.ensures.items) (fit_more c.args.gone.now.items one c.take.new.self (subst Others (sym c.in-Some.ensures.taken) c.requires.fit) c.in-Some.ensures.fit)

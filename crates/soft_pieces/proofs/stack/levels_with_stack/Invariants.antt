@@ -4,6 +4,6 @@ use Rattle.soft_pieces.proofs.stack.levels_with_stack.Given as goal
 
 abbrev pub invariant-loop-level : goal.invariant-loop-level
 invariant-loop-level l = record {
-  size : length l.stands ≡ 33;
-  below : (k : ℕ) → k < l.level → get_or l.stands k false ≡ has_stack k l.memory;
+  size : length l.has_stack ≡ 33;
+  below : (k : ℕ) → k < l.level → get_or l.has_stack k false ≡ has_stack k l.memory;
 }

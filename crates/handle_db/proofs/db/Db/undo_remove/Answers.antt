@@ -20,7 +20,7 @@ invariant_of-self-then-is_err c =
       names = subst (Names c.remove.new.self) (sym same) names;
     }
 
--- or the interface stands again
+-- or the interface is there again
 pub invariant_of-self-else-is_err : goal.invariant_of-self-else-is_err
 invariant_of-self-else-is_err c =
     let db : Database = record { handles = c.self.inside.handles.items; next = c.self.inside.next; limit = c.self.inside.limit } in

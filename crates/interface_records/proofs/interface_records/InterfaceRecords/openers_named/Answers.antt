@@ -1,10 +1,10 @@
 use Rattle.interface_records.specs.Records.{is_named}
 use Rattle.interface_records.specs.Stamped.{AreStampsOf}
-use Rattle.interface_records.proofs.ListingLemmas.{named_alike, tell_by}
+use Rattle.interface_records.proofs.ListingLemmas.{named_alike, lists_by}
 use Rattle.interface_records.proofs.interface_records.InterfaceRecords.openers_named.Goals as goal
 
 pub returns : goal.returns
 returns c =
     let stamps : AreStampsOf c.as_slice.result.now (is_named c.args.name) c.self.inside.rows = rw c.as_slice.ensures.value c.in_ok-stamps.ensures in
     rw (← c.self.view_is)
-    (tell_by (is_named c.args.name) c.self.inside.rows (named_alike c.args.name) c.soundness.ensures.rising c.as_slice.result.now stamps _ c.in_ok-openers.ensures)
+    (lists_by (is_named c.args.name) c.self.inside.rows (named_alike c.args.name) c.soundness.ensures.rising c.as_slice.result.now stamps _ c.in_ok-openers.ensures)
