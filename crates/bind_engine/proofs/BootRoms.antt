@@ -43,7 +43,7 @@ map-set {X} f g x a (suc n) (suc j) k at other here =
 pub length-roms_in : (roms : List (Option (Vec ℕ Global))) → length (roms_in roms) ≡ length roms
 length-roms_in roms = length-map roms (option_map (λ (rom : Vec ℕ Global). rom.items))
 
--- the code has no ROM at first
+-- at first the code has no ROM
 abbrev no_bytes : ℕ → Option (Vec ℕ Global)
 no_bytes number = None
 

@@ -1,4 +1,4 @@
--- The machine at first: the opening state of a board, whose functions have the option ROMs that its lines name.
+-- The machine after the boot: the opening state of a board, whose functions have the option ROMs that its lines name.
 use Rattle.std.specs.Prelude.{ℕ, List, [], map, length, Bool, true, false, nat_lt, Option, Some, None, option_map, option_and_then, if◌then◌else◌}
 use Rattle.std.specs.List.{filter_map, list_any, range_with_len}
 use Rattle.fw_types.specs.declared.limits.TheConstants.{CALL_BUDGET, COMMAND_BUDGET}

@@ -165,7 +165,7 @@ pub fn close_children(
     Ok(())
 }
 
-/// Notes what a driver's turn came to.
+/// Notes the result of a driver's turn.
 ///
 /// # Errors
 ///

@@ -129,7 +129,7 @@ module _ (agent child : ℕ) (real : nat_eq child 0 ≡ false) where
       let records = records_on soft.records.entries controller (protocols_of controller soft.database) in
       sym (any_once child (child_numbers (Some agent) records) ∙ any_child records (legal_on controller soft.records.entries (protocols_of controller soft.database) kept.records.sound.kept))
 
--- 0 is no child
+-- 0 is not a child
 no_null : (agent : ℕ) (records : List Rec) → list_any (nat_eq 0) (child_numbers (Some agent) records) ≡ false
 no_null agent [] = refl
 no_null agent (rec ∷ records) = elim (cases_Bool (is_child (Some agent) rec)) [

@@ -9,6 +9,6 @@ use Rattle.driver_model.specs.declared.binding.BindingBlock.{BindingBlock}
 abbrev pub unmarked_binding : (marked : List ℕ) → ℕ → Soft → Option BindingBlock
 unmarked_binding marked handle soft = if list_any (nat_eq handle) marked then None else binding handle soft
 
--- the bindings of those of these handles that are not marked, in their order
+-- the bindings of the unmarked ones among these handles, in their order
 abbrev pub unmarked_bindings : (marked handles : List ℕ) → Soft → List BindingBlock
 unmarked_bindings marked handles soft = filter_map (λ handle. unmarked_binding marked handle soft) handles

@@ -96,7 +96,7 @@ fn chosen_first(
     first_places(world.alloc(), groups.as_slice())
 }
 
-/// The unmarked drivers of the bus specific driver override for a controller: none if the controller is no
+/// The unmarked drivers of the bus specific driver override for a controller: none if the controller is not a
 /// child of the bus.
 fn bus_drivers_of(
     world: &World,

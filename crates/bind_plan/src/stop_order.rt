@@ -94,7 +94,7 @@ fn add_parent(
     Ok(())
 }
 
-/// Whether an agent has the child open on the controller. The handle 0 is no child.
+/// Whether an agent has the child open on the controller. The handle 0 is not a child.
 fn has_child(world: &World, controller: Handle, child: u64, agent: u64) -> Result<bool, OutOfMemory>
     ensures { IfOk result (λ has. has ≡ has_child_value controller child world.now.now.soft agent) }
 {

@@ -302,7 +302,7 @@ const STOP_ROWS: [StopRow; 10] = [
     (3, 0, 0, Some(&[5, 4])),
     (3, 4, 0, Some(&[4])),
     (3, 6, 0, Some(&[])),
-    // the partition is a child of driver 4 alone
+    // the partition is a child of driver 4 only
     (3, 0, 7, Some(&[4])),
     (3, 4, 7, Some(&[4])),
     (3, 5, 7, None),

@@ -4,10 +4,10 @@ use std::alloc::Global;
 /// A case of the file: its name and its lines.
 ///
 /// A line `driver IMAGE PART ..` names an image file and the listings of its code: `PART` is
-/// `drivers/PART.asm`, and each part follows the one before. A line `rom-driver ROM PART .. + PART
-/// ..` names the file of an option ROM with such images, with a `+` between two of them. A line
-/// `board LINE` is a line of the board. All other lines are the expected report. The script is the
-/// lines of the board, and then what follows `> ` in the report.
+/// `drivers/PART.asm`, and each part follows the part before.
+/// A line `rom-driver ROM PART .. + PART ..` names the file of an option ROM with such images, with
+/// a `+` between two of them. A line `board LINE` is a line of the board. All other lines are the
+/// expected report. The script is the lines of the board, and then what follows `> ` in the report.
 #[derive(Drop)]
 pub struct Case<'a> {
     pub name: &'a str,

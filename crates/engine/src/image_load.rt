@@ -90,8 +90,7 @@ fn pay_and_enter(
 ///
 /// # Errors
 ///
-/// `OutOfMemory` if there is no memory for the image, or for what the entry point
-/// does.
+/// `OutOfMemory` if there is no memory for the image, or for what the entry point does.
 #[cycle(engine)]
 #[tactic(auto, unfolding(driver_model::specs::ImageLife::image_loaded))]
 pub fn load_image(

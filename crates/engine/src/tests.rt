@@ -12,7 +12,7 @@ use std::alloc::Global;
 use std::test::Fail;
 use world_model::laws::rest_is_free;
 
-/// A world in its opening state, with so many units.
+/// A world in its opening state, with `units` units.
 #[tactic(auto, unfolding(world_model::specs::Levels::has_marks))]
 fn opening_world(alloc: Global, units: u32) -> Result<World, Fail>
     ensures free { IfOk result (λ world.
@@ -128,7 +128,7 @@ fn connects_on_an_empty_board(rt: HostRuntime) -> Result<(), Fail> {
 /// A driver, the status and its event.
 const DISCONNECTS: [(u64, Status); 2] = [
     (0, Status::SUCCESS),
-    // the firmware is no driver
+    // the firmware is not a driver
     (1, Status::INVALID_PARAMETER),
 ];
 

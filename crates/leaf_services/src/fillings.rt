@@ -10,11 +10,11 @@ use std::test::Fail;
 pub(crate) enum Filling {
     /// Protocols with these numbers, from the first to just before the second, are installed on handle 4.
     Interfaces(u64, u64),
-    /// 32 pairs are put at `LIST`, after `FIRST`, and then a word.
+    /// 32 pairs are put at `LIST`, after the word `FIRST`, and then this word.
     Pairs(u64),
     /// As many blocks as there may be are made, counting the loaded image block.
     Blocks,
-    /// Protocol 1 is installed on so many new handles.
+    /// Protocol 1 is installed on this many new handles.
     Handles(u64),
     /// 63 protocols of handle 4 are each opened in 1,083 ways, until no record is free and the last opens
     /// fail. The GUID of the first of them is then at `OTHER`.
@@ -40,7 +40,7 @@ fn install_from(world: &mut World, from: u64, to: u64) -> Result<(), Fail> {
     put_name(world, OTHER, 2)
 }
 
-/// Puts 32 pairs at `LIST`, after `FIRST`, and then a word.
+/// Puts 32 pairs at `LIST`, after the word `FIRST`, and then the word `last`.
 fn put_pairs(world: &mut World, last: u64) -> Result<(), Fail> {
     put_word(world, LIST, FIRST)?;
     let mut name = PLACE + 0x200;
@@ -65,7 +65,7 @@ fn most_blocks(world: &mut World) -> Result<(), Fail> {
     Ok(())
 }
 
-/// Installs protocol 1 on so many new handles.
+/// Installs protocol 1 on `many` new handles.
 fn new_handles(world: &mut World, many: u64) -> Result<(), Fail> {
     for _ in 0..many {
         put_word(world, FIRST, 0)?;

@@ -129,8 +129,8 @@ fn full_pool(rt: HostRuntime) -> Result<(), Fail> {
     from_protocol(&rt, &steps)
 }
 
-/// Services that make a block, when there are as many blocks as there may be: not even one of no bytes has
-/// room.
+/// Services that make a block, when there are as many blocks as there may be: there is no room even for a
+/// block of no bytes.
 const MORE_BLOCKS: &[Call] = &[
     ([0, 0, 0, 0, 0, 0], INVALID),
     ([0, 0, BAD, 0, 0, 0], TRAPPED),

@@ -105,7 +105,7 @@ pub(crate) enum Step {
     Fills(Filling),
     /// Image 3 calls a service with these arguments, and the service answers this.
     Calls(Service, &'static [u64], Answer),
-    /// The same, and the service spends so many units.
+    /// The same, and the service spends this many units.
     Spends(Service, &'static [u64], Answer, u64),
     /// A service answers each of these calls as given.
     CallsAll(Service, &'static [Call]),
@@ -113,8 +113,8 @@ pub(crate) enum Step {
     CallsAt(Service, u64, Answer),
     /// The same with arguments that are first put at `LIST`.
     CallsList(Service, &'static [u64], Answer),
-    /// AllocatePool of so many bytes: what it answers, what is then at `PLACE`, where 7 was, and the units that
-    /// it spends.
+    /// AllocatePool of this many bytes: what it answers, what is then at `PLACE`, where 7 was, and the units
+    /// that it spends.
     Allocates(u64, Answer, u64, u64),
     /// OpenProtocol: what it answers, what is then at `SECOND`, where 7 was, and how many records there are.
     Opens(&'static [u64], Answer, u64, u32),
@@ -127,7 +127,7 @@ pub(crate) enum Step {
     /// No 8 bytes can be read at an address, or not even one byte.
     NoWord(u64),
     NoByte(u64),
-    /// So many units are left.
+    /// This many units are left.
     Left(u64),
     /// The task priority level.
     Level(u8),
@@ -413,7 +413,7 @@ pub(crate) fn empty_world(rt: &impl AllocGlobal) -> Result<World, Fail>
     Ok(world)
 }
 
-/// Adds a stack of level 1 and one image, whose handle is 3, and so many units.
+/// Adds a stack of level 1 and one image, whose handle is 3, and `units` units.
 pub(crate) fn set_up(rt: &impl AllocGlobal, world: &mut World, units: u32) -> Result<(), Fail>
     requires { has_stack 1 world.old.now.soft.memory ≡ false }
 {
@@ -428,7 +428,7 @@ pub(crate) fn from_start(rt: &(impl AllocGlobal + Abort), steps: &[Step]) -> Res
     from_units(rt, 100, steps)
 }
 
-/// Takes the steps, beginning from a world with so many units.
+/// Takes the steps, beginning from a world with `units` units.
 pub(crate) fn from_units(
     rt: &(impl AllocGlobal + Abort),
     units: u32,

@@ -128,7 +128,7 @@ fn serve_priced_first(w: &mut World, s: Service, c: &Caller) -> Result<Served, O
     end_row(change, w)
 }
 
-/// Serves a function with these arguments, on one of which its price depends.
+/// Serves a function with these arguments. Its price depends on one of them.
 fn serve_with(w: &mut World, s: Service, c: &Caller, a: &[u64; 16]) -> Result<Served, OutOfMemory>
     requires { is_boot_service s ≡ false }
     ensures now { IfOk result (λ answer. with_price ((row s).price a.now) ((row s).rest c.now a.now) w.old.now ≡ (answer, w.new.now)) }

@@ -113,10 +113,10 @@ fn in_device(function: u32, space: Space, at: u64, n: u64, w: &World) -> Result<
 ///
 /// # Errors
 ///
-/// In this order: `Status` with INVALID_PARAMETER if `this` is no PCI I/O of a child of the bus, if the
-/// buffer is NULL, or if the width is over 11, and with UNSUPPORTED if it is over 3; `Trap` with `Memory`
-/// if the buffer can't be written; `Status` with UNSUPPORTED if there is no such BAR, or if an element
-/// lies past its end.
+/// In this order: `Status` with INVALID_PARAMETER if `this` is not the PCI I/O of a child of the bus, if
+/// the buffer is NULL, or if the width is over 11, and with UNSUPPORTED if it is over 3; `Trap` with
+/// `Memory` if the buffer can't be written; `Status` with UNSUPPORTED if there is no such BAR, or if an
+/// element lies past its end.
 pub fn read_device(
     this: u64,
     width: u32,
@@ -192,8 +192,8 @@ fn location(function: u32, w: &World) -> Result<(u8, u8, u8), Stop>
 ///
 /// # Errors
 ///
-/// In this order: `Status` with INVALID_PARAMETER if `this` is no PCI I/O of a child of the bus, or if a
-/// place is NULL; `Trap` with `Memory` if one can't be written.
+/// In this order: `Status` with INVALID_PARAMETER if `this` is not the PCI I/O of a child of the bus, or
+/// if a place is NULL; `Trap` with `Memory` if one can't be written.
 pub fn get_location(
     this: u64,
     segment: u64,
@@ -325,9 +325,9 @@ fn attributes_of(
 ///
 /// # Errors
 ///
-/// In this order: `Status` with INVALID_PARAMETER if `this` is no PCI I/O of a child of the bus, if the
-/// operation is over 4, or if `out` is NULL; `Trap` with `Memory` if `out` can't be written; `Status` with
-/// UNSUPPORTED if an attribute is not supported.
+/// In this order: `Status` with INVALID_PARAMETER if `this` is not the PCI I/O of a child of the bus, if
+/// the operation is over 4, or if `out` is NULL; `Trap` with `Memory` if `out` can't be written; `Status`
+/// with UNSUPPORTED if an attribute is not supported.
 pub fn attributes(this: u64, operation: u32, bits: u64, out: u64, w: &World) -> Result<Change, Stop>
     ensures { result ≡ attributes this operation bits out w.now.now }
 {

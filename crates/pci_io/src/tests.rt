@@ -53,7 +53,7 @@ const TRAPPED: Answer = Answer::Trap(Cause::Memory);
 type Call = ([u64; 6], Answer);
 
 /// The board of a root bridge and a function with 64 bytes at BAR 1, with a child for the function, a
-/// stack of level 1, and so many units.
+/// stack of level 1, and `units` units.
 fn with_a_child(rt: &(impl AllocGlobal + Abort), units: u32) -> Result<World, Fail>
     ensures { IfOk result (λ world. world.marks ≡ []) }
 {
@@ -436,7 +436,7 @@ fn undo_leaves_devices_in(rt: &(impl AllocGlobal + Abort), world: &mut World) ->
     only_byte_stays(rt, world, second)
 }
 
-/// A handle whose PCI I/O was uninstalled is no child, even if another PCI I/O is installed on it.
+/// A handle whose PCI I/O was uninstalled is not a child, even if another PCI I/O is installed on it.
 #[test]
 fn uninstalled_pci_io_is_none(rt: HostRuntime) -> Result<(), Fail> {
     let mut world = with_a_child(&rt, 100)?;

@@ -83,8 +83,8 @@ fn loads_are_summed_up(rt: HostRuntime) -> Result<(), Fail> {
     // driver N times, and then connects and disconnects N times. Each load of the driver makes an
     // event and spends 82 units, and its image stays. A connect makes three events, one of them for
     // Start of the PCI bus driver, which makes N children: 3 * 64 + 16 * N units. A disconnect
-    // removes them again and costs as much. So a load comes to N * (82 + 384 + 32 * N) units and 7 *
-    // N events. Beside the images there are three handles.
+    // removes them again and costs as much. So a load comes to N * (82 + 384 + 32 * N) units and
+    // 7 * N events. In addition to the images there are three handles.
     let cases: [(&str, u8, &str); 12] = [
         (
             "1",

@@ -63,7 +63,7 @@ pub fn run_words(alloc: Global, name: &str) -> Result<Vec<String>, AllocError> {
     Ok(vec![in alloc; run, name]?)
 }
 
-/// The same piece so many times.
+/// The same piece, repeated `count` times.
 pub fn repeated(alloc: Global, piece: &[u8], count: usize) -> Result<Vec<u8>, AllocError> {
     let mut bytes = Vec::new(alloc);
     for _ in 0..count {

@@ -77,8 +77,8 @@ pub fn top<F: Shelf, K: Sink>(alloc: Global, words: &Vec<String>, shelf: &mut F,
     }
 }
 
-/// The program over a shelf and a sink in memory, neither of which fails, with room for the whole
-/// text: it gives its answer, unless it is out of memory.
+/// The program over a shelf and a sink in memory. Neither of them fails, and there is room for the
+/// whole text. The program gives its answer, unless it is out of memory.
 pub fn top_in_memory(
     alloc: Global,
     words: &Vec<String>,

@@ -113,7 +113,8 @@ decreases-stop_turn::take_stop_turn l = 32 * l.room + 20
 abbrev pub decreases-disconnection::stop_drivers : goal.decreases-disconnection::stop_drivers
 decreases-disconnection::stop_drivers l = 32 * l.room + 21
 
--- ---- loops: what is left to do from here on comes to the whole, and apart from that the world is as it was
+-- ---- loops: doing what is left from here on gives the same as doing all of it, and nothing else of the world has
+-- changed
 
 abbrev pub decreases-bus_driver::process_below_last : goal.decreases-bus_driver::process_below_last
 decreases-bus_driver::process_below_last l = 32 * l.room + 1
