@@ -8,10 +8,10 @@ use fw_world::World;
 use std::alloc::Global;
 
 /// The drivers that DisconnectController stops for `controller`, in their order (UEFI 2.8, 7.3:
-/// DisconnectController): those that manage it. Of these it is only `driver`, unless that is 0. Of the ones
-/// that remain, it is only those that have `child` open there by BY_CHILD_CONTROLLER, unless `child` is 0.
-/// The answer is `None` exactly if some drivers remain before the child is looked at, and none of them has
-/// the child. DisconnectController answers NOT_FOUND then.
+/// DisconnectController): those that manage it. If `driver` is not 0, all others are left out. If `child`
+/// is not 0, all drivers that do not have the child open there by BY_CHILD_CONTROLLER are left out. The
+/// answer is `None` exactly if some drivers remain before the child is looked at, and none of them has the
+/// child. DisconnectController answers NOT_FOUND then.
 ///
 /// # Errors
 ///

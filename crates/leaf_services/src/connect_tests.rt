@@ -1,5 +1,5 @@
-//! ConnectController and DisconnectController, up to where they enter the driver model. The table of
-//! services has them as not built, so their rows are called here.
+//! ConnectController and DisconnectController, up to where they enter the driver model. Their rows are
+//! called here, not `serve`.
 
 ghost use Rattle.std.specs.Prelude.{◌≡◌, IfOk, false, true};
 ghost use Rattle.service_model.specs.Allowed.{is_allowed};

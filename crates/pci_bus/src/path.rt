@@ -29,7 +29,7 @@ fn way_nodes(alloc: Global, board: &Board, most: u32, f: u32) -> Result<Vec<u8>,
     longer_way(alloc, board, most - 1, f)
 }
 
-/// The same, if at least one node may be taken: `less` is one less than the most.
+/// The same if at least one node may be taken: at most the last `less + 1` of them.
 #[cycle(way)]
 #[tactic(auto, unfolding(pci_model::specs::Ways::way_within), using(crate::proofs::Ways::nodes_more))]
 fn longer_way(alloc: Global, board: &Board, less: u32, f: u32) -> Result<Vec<u8>, OutOfMemory>

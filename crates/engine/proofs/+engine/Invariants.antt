@@ -113,8 +113,8 @@ decreases-stop_turn::take_stop_turn l = 32 * l.room + 20
 abbrev pub decreases-disconnection::stop_drivers : goal.decreases-disconnection::stop_drivers
 decreases-disconnection::stop_drivers l = 32 * l.room + 21
 
--- ---- loops: doing what is left from here on gives the same as doing all of it, and nothing else of the world has
--- changed
+-- ---- loops: doing what is left from here on gives the same as doing all of it; the marks and the stacks are as they
+-- were
 
 abbrev pub decreases-bus_driver::process_below_last : goal.decreases-bus_driver::process_below_last
 decreases-bus_driver::process_below_last l = 32 * l.room + 1
