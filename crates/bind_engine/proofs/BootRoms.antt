@@ -1,4 +1,4 @@
--- Line by line the functions of a board get the option ROMs that are named for them.
+-- Line by line, the functions of a board get the option ROMs that are named for them.
 use Rattle.std.proofs.Common.{◌≡◌, ◌≢◌, ◌≤◌, ◌<◌, ℕ, zero, suc, ◌+◌, Bool, true, false, cond, nat_eq, List, [], ◌∷◌, ◌++◌, length, map, set, take, drop, get_or, Option, Some, None, refl, sym, ap, subst, ◌∙◌, arith}
 use Rattle.std.specs.Prelude.{option_and_then, option_map, option_to_list, slice_get, slice_set}
 use Rattle.std.specs.List.{cons_option, filter_map, list_any, range_with_len}
@@ -28,7 +28,7 @@ map-same {X} f g a (suc n) same =
     ap (λ (x : X). x ∷ map f (range_with_len (a + 1) n)) (same a (omega arith))
     ∙ ap (λ (xs : List X). g a ∷ xs) (map-same f g (a + 1) n (λ i above. same i (omega arith)))
 
--- a list that changes at one place
+-- a list that is changed at one place
 map-set : {X : Type 0} (f g : ℕ → X) (x : X) (a n j k : ℕ) → k ≡ a + j → ((i : ℕ) → i ≢ k → f i ≡ g i) → x ≡ g k → set (map f (range_with_len a n)) j x ≡ map g (range_with_len a n)
 map-set f g x a zero j k at other here = refl
 map-set {X} f g x a (suc n) zero k at other here =
@@ -39,11 +39,11 @@ map-set {X} f g x a (suc n) (suc j) k at other here =
     ap (λ (y : X). y ∷ set (map f (range_with_len (a + 1) n)) j x) (other a (λ is. omega arith))
     ∙ ap (λ (xs : List X). g a ∷ xs) (map-set f g x (a + 1) n j k (omega arith) other here)
 
--- code has as many ROMs
+-- the code's ROMs, read as lists of bytes, are as many as before
 pub length-roms_in : (roms : List (Option (Vec ℕ Global))) → length (roms_in roms) ≡ length roms
 length-roms_in roms = length-map roms (option_map (λ (rom : Vec ℕ Global). rom.items))
 
--- it has none at first
+-- at first the code has no ROM
 abbrev no_bytes : ℕ → Option (Vec ℕ Global)
 no_bytes number = None
 
@@ -63,7 +63,7 @@ first_name-other location before line none =
     let last : filter_map (name_at location) (line ∷ []) ≡ [] = rw none refl in
     ap (λ (all : List (List ℕ)). slice_get all 0) (filter_map-append (name_at location) before (line ∷ []) ∙ ap (λ (rest : List (List ℕ)). names ++ rest) last ∙ append-nil names)
 
--- the first line that does
+-- the first line that names it
 first_name-new : (location : Location) (before : List BoardLine) (line : BoardLine) (name : List ℕ) → name_at location line ≡ Some name → filter_map (name_at location) before ≡ []
     → first_name location (before ++ line ∷ []) ≡ Some name
 first_name-new location before line name is none =
@@ -104,17 +104,17 @@ same_roms files lines before line none =
     same None = refl
     same (Some location) = ap (rom_named files) (sym (first_name-other location before line (none location)))
 
--- one that names the ROM of a function
+-- a line that names the ROM of a function
 module _ (found_at_location : FoundAtLocation) (is_where_found : IsWhereFound) (rom_is_new : RomIsNew) (files : Files) (lines before after : List BoardLine) (bus device function : ℕ) (name : List ℕ)
     (whole : lines ≡ before ++ Rom bus device function name ∷ after) (ok : board_fault lines ≡ None) where
   here : Location
   here = (bus, device, function)
 
-  -- no other line names it
+  -- no line before it names that ROM
   is_new : filter_map (name_at (bus, device, function)) before ≡ []
   is_new = rom_is_new before after bus device function name (subst (λ (all : List BoardLine). board_fault all ≡ None) whole ok)
 
-  -- the functions elsewhere
+  -- the functions at other locations
   elsewhere : (i : ℕ) (location : Option Location) → location_of lines i ≡ location → (find_at lines (bus, device, function) ≡ Some i → ⊥)
       → rom_at files before location ≡ rom_at files (before ++ Rom bus device function name ∷ []) location
   elsewhere i None at other = refl
@@ -184,7 +184,7 @@ roms_at found where_found is_new files lines i line old new within is ok before 
     ∙ next_roms found where_found is_new files lines (take i lines) (drop (suc i) lines) line (split_at lines i line within is) ok
     ∙ ap (roms_so_far files lines) (taken_more lines i line within is)
 
--- the notes likewise
+-- and the notes
 pub notes_more : {X : Type 0} (note : BoardLine → Option X) (lines : List BoardLine) (i : ℕ) (line : BoardLine) (old new : List X) → i < length lines → line ≡ get_or lines i line
     → old ≡ filter_map note (take i lines) → new ≡ old ++ option_to_list (note line) → new ≡ filter_map note (take (i + 1) lines)
 notes_more {X} note lines i line old new within is before step =
@@ -198,6 +198,6 @@ notes_more {X} note lines i line old new within is before step =
     one None = refl
     one (Some x) = refl
 
--- after all lines
+-- the ROMs after all lines
 pub all_roms : (files : Files) (lines : List BoardLine) (i : ℕ) → length lines ≤ i → roms_so_far files lines (take i lines) ≡ roms_on files lines
 all_roms files lines i past = ap (roms_so_far files lines) (take_all i lines past)

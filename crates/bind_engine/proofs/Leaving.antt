@@ -1,5 +1,5 @@
--- What a command's drivers leave: what is spent and what stays, by the laws of the definition that the code does, and that
--- the world is idle again.
+-- What a command's drivers leave: what they spend and what stays, by the laws of the definition that the code computes.
+-- And the world is idle again.
 use Rattle.std.proofs.Common.{◌≡◌, ◌∙◌, subst}
 use Rattle.std.specs.Prelude.{Result, Ok, Err, IfOk, OnOk}
 use Rattle.fw_types.specs.declared.memory.OutOfMemory.{OutOfMemory}

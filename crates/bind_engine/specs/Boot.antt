@@ -1,4 +1,4 @@
--- The machine at first: the opening state of a board, whose functions have the option ROMs that its lines name.
+-- The machine after the boot: the opening state of a board, whose functions have the option ROMs that its lines name.
 use Rattle.std.specs.Prelude.{ℕ, List, [], map, length, Bool, true, false, nat_lt, Option, Some, None, option_map, option_and_then, if◌then◌else◌}
 use Rattle.std.specs.List.{filter_map, list_any, range_with_len}
 use Rattle.fw_types.specs.declared.limits.TheConstants.{CALL_BUDGET, COMMAND_BUDGET}
@@ -16,13 +16,13 @@ use Rattle.bind_engine.specs.Machine.{MachineView}
 
 -- ---- the file of an option ROM
 
--- why it gives no ROM: it is absent, or has more bytes than an option ROM may have
+-- why a file gives no ROM: it is absent, or has more bytes than an option ROM may have
 abbrev pub rom_fault : NamedFile → Option RomNoteKind
 rom_fault absent = Some Missing
 rom_fault (present bytes) = if nat_lt MOST_ROM_BYTES (length bytes) then Some TooLong else None
 rom_fault too_long = Some TooLong
 
--- the ROM that it is
+-- the ROM that a file gives
 abbrev pub rom_in_file : NamedFile → Option (List ℕ)
 rom_in_file absent = None
 rom_in_file (present bytes) = if nat_lt MOST_ROM_BYTES (length bytes) then None else Some bytes
@@ -38,7 +38,7 @@ rom_of_function files lines number = option_and_then (λ name. rom_in_file (file
 abbrev pub roms_on : Files → List BoardLine → List (Option (List ℕ))
 roms_on files lines = map (rom_of_function files lines) (range_with_len 0 (length (functions lines)))
 
--- what is noted of a line: that it names a file which gives no ROM
+-- the note on a line: it names a file that gives no ROM
 abbrev pub note_of_line : Files → BoardLine → Option RomNote
 note_of_line files (Root uid bus) = None
 note_of_line files (Func bus device function vendor id class) = None
@@ -65,7 +65,7 @@ boot_reads board = list_any names_rom board.lines
 
 -- ---- the machine
 
--- No image is loaded, the platform prefers no drivers, and the budgets are those of this firmware.
+-- No image is loaded, the platform prefers no drivers, and the budgets are the first ones of this firmware.
 abbrev pub booted : Files → BoardState → MachineView
 booted files board = record {
   world = (opening board (roms_on files board.lines)).now;

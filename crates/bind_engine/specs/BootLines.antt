@@ -9,7 +9,7 @@ use Rattle.pci_model.specs.declared.line.BoardLine.{BoardLine}
 use Rattle.pci_model.specs.declared.line.BoardLine.TheVariants.{Root, Func, Bridge, Bar, Rom}
 use Rattle.bind_engine.specs.Boot.{rom_in_file}
 
--- the ROM that a file gave, and why it gave none
+-- the ROM that a file gave, and the reason if it gave none
 abbrev pub rom_given : Result (Vec ℕ Global) RomNoteKind → Option (List ℕ)
 rom_given (Ok bytes) = Some bytes.items
 rom_given (Err kind) = None
@@ -22,7 +22,7 @@ fault_given (Err kind) = Some kind
 abbrev pub no_rom : (number : ℕ) → Option (List ℕ)
 no_rom number = None
 
--- the ROMs with that of one function
+-- the ROMs, with that of one function set
 abbrev pub with_rom : Option ℕ → Option (List ℕ) → List (Option (List ℕ)) → List (Option (List ℕ))
 with_rom None rom roms = roms
 with_rom (Some number) None roms = roms

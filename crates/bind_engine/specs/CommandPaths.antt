@@ -39,7 +39,7 @@ connection controller recursive path = record {
 abbrev pub without_path : Status × State → Status × State
 without_path (status, w) = (status, on_soft path_cleared w)
 
--- what is done with a path in memory, or with none
+-- runs something with a path in memory, or with none
 abbrev pub with_path : Option (List ℕ) → (State → Status × State) → State → Status × State
 with_path None run w = run w
 with_path (Some bytes) run w = without_path (run (on_soft (path_set bytes) w))

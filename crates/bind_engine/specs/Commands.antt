@@ -1,4 +1,4 @@
--- The driver-model machine: what each command gives.
+-- The driver-model machine: the reply that each command gives, and the machine after it.
 use Rattle.std.specs.Prelude.{ℕ, ◌-◌, ◌++◌, Bool, true, false, not, nat_eq, filter, List, [], ◌∷◌, None, Some, if◌then◌else◌}
 use Rattle.fw_types.specs.declared.status.Status.{Status}
 use Rattle.fw_types.specs.declared.status.TheConstants.Status.{INVALID_PARAMETER, LOAD_ERROR, NOT_FOUND, SUCCESS}
@@ -49,13 +49,13 @@ image_ending load = (record { images = load.note ∷ []; rom = None; status = lo
 abbrev pub rom_ending : RomEnd → RomTally × State → Ending × State
 rom_ending end (tally, w) = (record { images = tally.notes; rom = Some end; status = rom_status tally }, w)
 
--- how the load of a file ends, which is an option ROM or one image
+-- how the load of a file ends: the file is an option ROM or one image
 abbrev pub file_ending : Settings → (file : List ℕ) → State → Ending × State
 file_ending settings file w =
     if is_rom file then rom_ending (rom_in file).end (with_images settings (rom_in file).images (no_images, w))
     else image_ending (loaded settings file w)
 
--- how a command ends that has a status alone
+-- how a command ends if it has only a status
 abbrev pub status_ending : Status × State → Ending × State
 status_ending (status, w) = (record { images = []; rom = None; status = status }, w)
 
@@ -84,7 +84,7 @@ command_unloaded settings image w = unloaded plain (first_level settings) outsid
 abbrev pub without_units : Status → List DumpLine → Reply
 without_units status dump = record { status = status; units = 0; events = []; images = []; rom = None; dump = dump }
 
--- a controller's list, in place of the one that it had
+-- the lists, with this one in place of the one that the controller had
 abbrev pub with_list : (controller : ℕ) → (drivers : List ℕ) → List PlatformList → List PlatformList
 with_list controller drivers lists =
     filter (λ (list : PlatformList). not (nat_eq list.controller controller)) lists ++ record { controller = controller; drivers = drivers } ∷ []
@@ -108,7 +108,7 @@ database_dumped machine = (without_units SUCCESS (dump_of machine.world.soft), m
 abbrev pub begun : MachineView → State
 begun machine = on_hard (command_begun machine.command_budget) machine.world
 
--- the reply has the units that were spent and the events, which are taken away
+-- the reply has the units that were spent and the events, which are taken out of the world
 abbrev pub reply_to : MachineView → Ending × State → Reply × MachineView
 reply_to machine (ending, w) = (
   record {
@@ -122,7 +122,7 @@ reply_to machine (ending, w) = (
   record machine { world = on_hard events_taken w },
 )
 
--- the reply to a command over files, and the machine after it
+-- the reply to a command with these files, and the machine after it
 abbrev pub exec : Command → Files → MachineView → Reply × MachineView
 exec (LoadCommand name) files machine = reply_to machine (load_ending machine.settings (file_of files name) (begun machine))
 exec (Connect controller recursive path context) files machine =

@@ -1,4 +1,4 @@
--- How a command runs drivers. It is outside all events and of level 0; the driver calls that it makes are of level 1.
+-- How a command runs drivers. It is outside all events and at level 0. The driver calls that it makes are at level 1.
 use Rattle.std.specs.Prelude.{◌-◌, List, ℕ, Option}
 use Rattle.fw_types.specs.declared.limits.TheConstants.{MOST_LEVELS}
 use Rattle.world_model.specs.World.{State}
@@ -25,6 +25,6 @@ first_level settings = level_over plain settings (level_with (MOST_LEVELS - 1)) 
 abbrev pub no_device : ℕ
 no_device = 0
 
--- the load of the image that a file is, by a command
+-- the load by a command of the image in a file
 abbrev pub loaded : Settings → (file : List ℕ) → State → Load State
 loaded settings file w = image_loaded plain (first_level settings) outside file no_device w

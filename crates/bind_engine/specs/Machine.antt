@@ -1,4 +1,4 @@
--- The driver-model machine, as it is handed from command to command.
+-- The driver-model machine, which is handed from command to command.
 use Rattle.std.specs.Prelude.{◌≡◌, ℕ, Bool, true, ◌&&◌}
 use Rattle.fw_types.specs.Commands.{is_between}
 use Rattle.fw_types.specs.declared.limits.TheConstants.{LEAST_CALL_BUDGET, LEAST_COMMAND_BUDGET, MOST_BUDGET}

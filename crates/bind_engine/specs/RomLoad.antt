@@ -18,11 +18,11 @@ use Rattle.bind_engine.specs.Levels.{loaded}
 abbrev pub is_rom : List ℕ → Bool
 is_rom file = starts_with nat_eq file (0x55 ∷ 0xAA ∷ [])
 
--- before the first image
+-- the tally before the first image
 abbrev pub no_images : RomTally
 no_images = record { notes = []; any_loaded = false; last_status = None }
 
--- an image that is noted and not loaded
+-- the tally after an image that is noted and not loaded
 abbrev pub with_note : ImageNote → RomTally → RomTally
 with_note note tally = record tally { notes = tally.notes ++ note ∷ [] }
 
@@ -34,7 +34,7 @@ is_loaded (Refused refusal) = false
 is_loaded Compressed = false
 is_loaded Skipped = false
 
--- an image whose load came to this note and status
+-- the tally after an image whose load came to this note and status
 abbrev pub with_load : ImageNote → Status → RomTally → RomTally
 with_load note status tally = record {
   notes = tally.notes ++ note ∷ [];
@@ -42,7 +42,7 @@ with_load note status tally = record {
   last_status = Some status;
 }
 
--- the load of a driver
+-- the tally and the state after the load of a driver
 abbrev pub with_driver : Settings → List ℕ → RomTally × State → RomTally × State
 with_driver settings file (tally, w) =
     let load : Load State = loaded settings file w in
@@ -55,11 +55,12 @@ with_image settings image (tally, w) =
     then (if nat_eq image.compression 0 then with_driver settings image.body (tally, w) else (with_note Compressed tally, w))
     else (with_note Skipped tally, w)
 
--- images in order
+-- the same for images, in order
 abbrev pub with_images : Settings → List Image → RomTally × State → RomTally × State
 with_images settings [] so_far = so_far
 with_images settings (image ∷ images) so_far = with_images settings images (with_image settings image so_far)
 
--- the status: SUCCESS if an image stays loaded, else that of the last load
+-- the status: SUCCESS if an image stays loaded, and otherwise that of the last load, or UNSUPPORTED if there was no
+-- load
 abbrev pub rom_status : RomTally → Status
 rom_status tally = if tally.any_loaded then SUCCESS else unwrap_or tally.last_status UNSUPPORTED

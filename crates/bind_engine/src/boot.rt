@@ -22,7 +22,7 @@ pub struct BoardRoms {
     pub notes: Vec<RomNote>,
 }
 
-/// No option ROM for any of so many functions.
+/// A list with no option ROM for any of `functions` functions.
 ///
 /// # Errors
 ///

@@ -11,7 +11,7 @@ use std::alloc::Global;
 /// The End node (UEFI 2.8, 10.3.1: Generic Device Path Structures).
 const END_NODE: [u8; 4] = [0x7F, 0xFF, 0x04, 0x00];
 
-/// What ConnectController is asked for by a command.
+/// What a command asks ConnectController for.
 pub fn connection(controller: u64, recursive: bool, path: PathArg) -> Connection
     ensures { result ≡ connection controller recursive path }
 {
@@ -23,7 +23,7 @@ pub fn connection(controller: u64, recursive: bool, path: PathArg) -> Connection
     }
 }
 
-/// The address of a path, which is NULL for none.
+/// The address of a path: NULL for no path.
 fn path_address(path: PathArg) -> u64
     ensures { result ≡ path_address path }
 {

@@ -20,7 +20,7 @@ use fw_types::{OutOfMemory, PathArg, Status};
 use fw_world::World;
 use world_model::laws::{command_paths_fit, rest_is_free};
 
-/// Calls ConnectController outside all events, with all levels below it.
+/// Calls ConnectController outside all events, with all levels below the command.
 ///
 /// # Errors
 ///
@@ -47,7 +47,7 @@ fn connect_at_rest(
     engine::connect(world, settings, ROOM, OUTSIDE, c, context)
 }
 
-/// Calls ConnectController with a path in memory, which is taken away after it.
+/// Calls ConnectController with a path in memory. The path is removed afterwards.
 ///
 /// # Errors
 ///

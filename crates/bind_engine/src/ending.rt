@@ -1,12 +1,12 @@
-//! How a command ends that runs drivers.
+//! How a command that runs drivers ends.
 ghost use Rattle.std.specs.Prelude.{◌≡◌, [], ◌∷◌, None, IfOk};
 
 use engine::ImageLoad;
 use fw_types::{ImageNote, OutOfMemory, RomEnd, Rows, Status};
 use std::alloc::Global;
 
-/// How a command ended: notes on the images of its file, how the option ROM ended if its file is
-/// one, and its status.
+/// How a command ended: notes on the images of its file, how the option ROM ended if the file is
+/// one, and the status.
 #[derive(Debug, Drop)]
 pub struct Ending {
     pub images: Rows<ImageNote>,
@@ -15,7 +15,7 @@ pub struct Ending {
 }
 
 impl Ending {
-    /// The ending of a command that has a status alone.
+    /// The ending of a command that has only a status.
     pub fn with_status(alloc: Global, status: Status) -> Ending
         ensures { result ≡ record { images = []; rom = None; status = status } }
     {

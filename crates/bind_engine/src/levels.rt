@@ -1,5 +1,5 @@
-//! How a command runs drivers: its own activations are of level 0, and the driver calls that it
-//! makes are of level 1.
+//! How a command runs drivers: its own activations are at level 0, and the driver calls that it
+//! makes are at level 1.
 use driver_model::Scope;
 use fw_types::MOST_LEVELS;
 

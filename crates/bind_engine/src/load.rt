@@ -17,7 +17,7 @@ use fw_shelf::{Shelf, ShelfFault};
 use fw_types::{OutOfMemory, Status};
 use fw_world::World;
 
-/// Loads the image that a file is.
+/// Loads the image in a file that is one image.
 ///
 /// # Errors
 ///
@@ -56,7 +56,7 @@ fn load_rom(world: &mut World, settings: &Settings, file: &[u8]) -> Result<Endin
     })
 }
 
-/// Loads what a file is: the images of an option ROM, or one image.
+/// Loads what is in a file: the images of an option ROM, or one image.
 ///
 /// # Errors
 ///
@@ -75,7 +75,7 @@ fn load_file(world: &mut World, settings: &Settings, file: &[u8]) -> Result<Endi
     }
 }
 
-/// Loads the file under a name.
+/// Loads the file with this name.
 ///
 /// # Errors
 ///

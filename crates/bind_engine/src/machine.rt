@@ -55,7 +55,7 @@ impl Model for Machine {
         × (are_budgets_legal machine.command_budget machine.settings.call_budget ≡ true) };
 }
 
-/// Why a command gave no reply, or a boot no machine. There is no machine after it then.
+/// Why a command gave no reply, or a boot gave no machine. There is no machine after that.
 #[derive(Clone, Copy, Debug, PartialEq, Eq, Error)]
 pub enum ExecFault {
     /// The shelf failed while a file was read.
@@ -74,7 +74,7 @@ impl From<OutOfMemory> for ExecFault {
     }
 }
 
-/// The machine after a command that ran drivers and ended so, and the reply to it.
+/// The machine after a command that ran drivers and ended like this, and the reply to the command.
 fn reply(
     mut world: World,
     settings: Settings,
@@ -126,8 +126,8 @@ impl Machine {
     /// handle 2, and each root bridge one from 3 on. The firmware's tables are mapped, and no image
     /// is loaded. A function whose option ROM a line of the board names has the bytes of that file.
     /// The platform prefers no drivers. A command may spend 4,194,304 units, and a driver call
-    /// 1,048,576. Beside the machine there is a note for each file that is absent or has more than
-    /// 1,048,576 bytes, in the order of the lines.
+    /// 1,048,576. In addition to the machine the answer has a note for each file that is absent or
+    /// has more than 1,048,576 bytes, in the order of the lines.
     ///
     /// # Errors
     ///
@@ -309,9 +309,9 @@ impl Machine {
         Ok((self, reply))
     }
 
-    /// Does what a command asks for, with the files of a shelf: the machine after it, and its
-    /// reply. The numbers of a `budget` command are within the limits: from 1 to 33,554,432 for a
-    /// command, and from 64 to 33,554,432 for a driver call.
+    /// Does what a command asks for, with the files of a shelf. The answer is the machine after the
+    /// command, and the reply to it. The numbers of a `budget` command are within the limits: from
+    /// 1 to 33,554,432 for a command, and from 64 to 33,554,432 for a driver call.
     ///
     /// # Errors
     ///

@@ -68,7 +68,8 @@ impl RomTally {
         Ok(())
     }
 
-    /// The status of the load of the whole option ROM.
+    /// The status of the load of the whole option ROM: SUCCESS if an image stays loaded, and
+    /// otherwise that of the last load, or UNSUPPORTED if there was no load.
     pub fn status(&self) -> Status
         ensures { result ≡ rom_status self.now }
     {
@@ -96,7 +97,7 @@ fn is_driver(image: &RomImage<'_>) -> bool
     image.code_type == EFI_CODE && image.machine == MACHINE_EBC
 }
 
-/// Loads the image that a file is. Its entry point runs at the first level, outside all events.
+/// Loads the image in a file. Its entry point runs at the first level, outside all events.
 ///
 /// # Errors
 ///
@@ -168,7 +169,8 @@ fn add_image(
     add_driver(world, settings, tally, image.body)
 }
 
-/// Loads the images of an option ROM, in order: what came of them, and how the ROM ended.
+/// Loads the images of an option ROM, in order. The answer is what came of them, and how the ROM
+/// ended.
 ///
 /// # Errors
 ///

@@ -38,7 +38,7 @@ module _ (controller : ℕ) where
   unfolding children_made
   made_paid number numbers children w paid enough is = rw (enough, is) refl
 
-  -- by what became of the child: it is made
+  -- the first of two cases for a child: it is made
   some_by : (full : Bool) (others : List NewChild → State → Result (List NewChild) Outcome × State) (number : ℕ) (children : List NewChild) (child : NewChild) (paid v : State)
       → is_bus_child_full controller number paid ≡ full → (if full then None else Some (record { handle = paid.soft.database.next; function = number })) ≡ Some child
       → v ≡ (if full then paid else bus_child_made controller number paid)
@@ -50,7 +50,7 @@ module _ (controller : ℕ) where
       rw full
       (ap (λ (one : NewChild). others (children ++ one ∷ []) (changed (adds_child controller number) paid)) same ∙ ap (others (children ++ child ∷ [])) (sym becomes))
 
-  -- or a limit is met
+  -- the second: a limit is met
   abbrev child_for : ℕ → State → Option NewChild
   child_for number paid = Some (record { handle = paid.soft.database.next; function = number })
 

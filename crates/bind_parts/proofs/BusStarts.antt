@@ -1,4 +1,4 @@
--- How Start of the PCI bus driver begins, by what Supported says.
+-- How Start of the PCI bus driver begins, by what Supported answers.
 use Rattle.std.proofs.Common.{◌≡◌, ℕ, Bool, true, false, not, nat_eq, List, [], refl, sym, ap, ◌∙◌}
 use Rattle.std.specs.Prelude.{IfOk, Option, Some, None, is_some, Result, Ok, Err, if◌then◌else◌}
 use Rattle.fw_types.specs.declared.event.Outcome.{Outcome}
@@ -19,7 +19,7 @@ use Rattle.driver_model.specs.declared.bus_driver.NewChild.{NewChild}
 use Rattle.driver_model.specs.declared.bus_driver.PathChoice.{PathChoice}
 use Rattle.driver_model.specs.declared.call.Scope.{Scope}
 
--- ---- what a success of Supported says
+-- ---- what follows if Supported succeeds
 
 pub record IsChosen (controller path : ℕ) (w : State) : Type 0 where
   pub bus : ℕ
@@ -64,7 +64,7 @@ some_root controller path w is = ap is_some is.root
 pub some_path : (controller path : ℕ) (w : State) → IsChosen controller path w → is_some (path_choice path w.soft) ≡ true
 some_path controller path w is = ap is_some is.path_is
 
--- ---- and what any other answer says
+-- ---- and what follows from any other answer
 
 pub unsupported : (chosen : Result (List ℕ) Status) (status : Status) → support_status chosen ≡ status → nat_eq status.0 SUCCESS.0 ≡ false → chosen ≡ Err status
 unsupported (Ok numbers) status is other =
@@ -105,7 +105,7 @@ pub refused : (success unequal : Bool) → unequal ≡ not success → unequal �
 refused true unequal is other = absurd cc
 refused false unequal is other = refl
 
--- ---- an answer from another
+-- ---- one fact about an answer from another
 
 pub each_ok : {A : Type 0} (result : Result A OutOfMemory) (P Q : A → Type 0) → ((a : A) → P a → Q a) → IfOk result P → IfOk result Q
 each_ok (Ok a) P Q f is = f a is

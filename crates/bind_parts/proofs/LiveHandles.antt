@@ -27,7 +27,7 @@ pub some_number : (found : Option ℕ) (number : ℕ) → 0 < number → SomeIff
 some_number None number some is = absurd (is some)
 some_number (Some other) number some is = rw (is.1) refl
 
--- the controller of a disconnect that means something is live
+-- a disconnect whose handles all mean something has a live controller
 all_false : (one two three : Bool) → (one || two || three) ≡ false → one ≡ false
 all_false true two three is = absurd cc
 all_false false two three is = refl

@@ -1,4 +1,5 @@
--- The records that are closed, by the children one after the other; and the platform's lists, one after the other.
+-- Closing the records of children, one child after the other; and going through the platform's lists, one after the
+-- other.
 use Rattle.std.proofs.Common.{◌≡◌, ℕ, ◌+◌, ◌<◌, ◌≤◌, true, false, List, [], length, drop, refl}
 use Rattle.std.specs.Prelude.{find, nat_eq, slice_index_or}
 use Rattle.std.proofs.lemmas.List.{drop_all}

@@ -1,4 +1,4 @@
--- An interface that is there can be removed.
+-- An interface that a handle has can be removed.
 use Rattle.std.proofs.Common.{◌≡◌, ℕ, Bool, true, false, not, List, find, refl}
 use Rattle.std.specs.Prelude.{bytes_eq, nat_eq, Option, Some, None, option_map, is_ok, is_some, Err, if◌then◌else◌}
 use Rattle.std.proofs.lemmas.Bool.{and_parts, not-true, or_parts}
@@ -20,7 +20,7 @@ use Rattle.driver_model.specs.UninstallWithReconnection.{is_still_there}
 use Rattle.driver_model.specs.declared.request.Remover.{Remover}
 use Rattle.driver_model.specs.declared.request.Remover.TheVariants.{TheFirmware, ADriver}
 
--- a handle that is not there has no interface
+-- a handle that is not live has no interface
 none_there : (entry : Option HandleEntry) (guid : List ℕ) → entry ≡ None → is_some {T = ℕ × ℕ} (option_map (λ (one : Interface). (one.interface, one.owner)) (find (is_guid guid) (interfaces_in entry))) ≡ true → ⊥
 none_there None guid is there = absurd cc
 none_there (Some entry) guid is there = absurd cc
@@ -38,7 +38,7 @@ removable handle guid soft there = by_live (is_live handle soft.database) refl
     by_live true is = by_found (find (is_guid guid) (interfaces_of handle soft.database)) there
     by_live false is = absurd (none_there (find (is_handle handle) soft.database.handles) guid (find-none (is_handle handle) soft.database.handles is) there)
 
--- what is still there for a driver is there, and is an image's
+-- an interface that is still there for a driver is there, and an image owns it
 of_image : (found : Option (ℕ × ℕ)) (interface : ℕ) → is_still_there ADriver interface found ≡ true → (is_some found ≡ true) × (is_of_image found ≡ true)
 of_image None interface still = absurd cc
 of_image (Some found) interface still = (refl, (and_parts (nat_eq found.0 interface) (not (nat_eq found.1 firmware)) still).1)

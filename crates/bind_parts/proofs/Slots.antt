@@ -1,4 +1,4 @@
--- The arguments that are read one after the other.
+-- Arguments that are read one after the other.
 use Rattle.std.proofs.Common.{◌≡◌, ◌<◌, ℕ, suc, ◌+◌, ◌-◌, List, [], ◌∷◌, ◌++◌, map, set, replicate, ap, sym, ◌∙◌, arith}
 use Rattle.std.specs.List.{range_with_len}
 use Rattle.std.proofs.lemmas.List.{set_at, append_assoc}

@@ -1,4 +1,4 @@
--- The bus driver's turns, child by child: how Start and Stop go on after each, or end.
+-- The bus driver's turns, child by child: how Start and Stop go on after each child, or end.
 use Rattle.std.specs.Prelude.{ℕ, List, [], ◌∷◌, ◌++◌, not, ◌||◌, Option, Some, None, option_map, Result, Ok, Err, if◌then◌else◌}
 use Rattle.fw_types.specs.declared.event.Outcome.{Outcome}
 use Rattle.handle_db.specs.Database.{is_live}
@@ -25,7 +25,8 @@ abbrev pub others_or_end : Option Outcome → (State → Outcome × State) → S
 others_or_end None others w = others w
 others_or_end (Some outcome) others w = (outcome, w)
 
--- the drivers to load for a child: none if it is not live, if its function has no option ROM, or if that was processed
+-- the drivers to load for a child: none if it is not live, if its function has no option ROM, or if that ROM was
+-- processed
 abbrev pub drivers_to_load : NewChild → State → Option (List (List ℕ))
 drivers_to_load child w =
     if not (is_live child.handle w.soft.database) || rom_done child.function w.soft then None

@@ -22,7 +22,7 @@ fn platform_list(settings: &Settings, controller: Handle) -> &[u64]
     &[]
 }
 
-/// The drivers to ask, in their order: those that are not marked.
+/// The drivers to ask, in their order, without the marked ones.
 ///
 /// # Errors
 ///
@@ -73,7 +73,7 @@ pub fn driver_call(kind: CallKind, block: &BindingBlock, c: &Connection) -> Call
     }
 }
 
-/// How a child is connected: with no path, and its children too.
+/// How a child is connected: with no path, and with its own children.
 pub fn child_connection(controller: u64) -> Connection
     ensures { result ≡ child_connection controller }
 {

@@ -34,7 +34,7 @@ fn by_driver() -> Attr
     }
 }
 
-/// BY_CHILD_CONTROLLER, as it does for a child.
+/// BY_CHILD_CONTROLLER, as the bus driver opens root bridge I/O for a child.
 fn by_child() -> Attr
     ensures { result ≡ Attr.BY_CHILD_CONTROLLER }
 {
@@ -62,8 +62,8 @@ pub fn bus_support(world: &World, controller: u64, path: u64) -> Status
     }
 }
 
-/// Whether an open of root bridge I/O by the bus driver, for a handle, would be a record more than
-/// there may be.
+/// Whether an open of root bridge I/O by the bus driver, for a handle, needs a new record when
+/// there is no room for one.
 fn is_root_record_full(world: &World, root: Handle, child: Handle, attr: Attr) -> bool
     ensures { result ≡ is_root_record_full root child attr world.now.now.soft }
 {
@@ -94,8 +94,8 @@ fn open_root(world: &mut World, root: Handle, child: Handle, attr: Attr) -> Resu
     }
 }
 
-/// Makes a child of a root bridge for a function, and opens root bridge I/O for it. `None` if that
-/// meets a limit; all is as before then.
+/// Makes a child of a root bridge for a function, and opens root bridge I/O for it. The answer is
+/// `None` if that meets a limit, and then everything is as before.
 ///
 /// # Errors
 ///
@@ -129,8 +129,8 @@ fn add_child(world: &mut World, root: Handle, f: u32) -> Result<Option<NewChild>
     }
 }
 
-/// Pays for a child and makes it; or answers how Start ends: by `Budget` if too few units are left,
-/// and with OUT_OF_RESOURCES at a limit.
+/// Pays for a child and makes it, or answers how Start ends: by `Budget` if too few units are left,
+/// or with OUT_OF_RESOURCES at a limit.
 ///
 /// # Errors
 ///
@@ -160,7 +160,7 @@ fn pay_and_add(
     }
 }
 
-/// Makes a child for each of these functions, in their order; or answers how Start ends.
+/// Makes a child for each of these functions, in their order, or answers how Start ends.
 ///
 /// # Errors
 ///
@@ -188,7 +188,8 @@ fn make_children(
     Ok(Ok(Rows::of(children)))
 }
 
-/// Opens a root bridge that is supported, and makes its children; or answers how Start ends.
+/// Opens root bridge I/O of a controller that is supported, and makes its children, or answers how
+/// Start ends.
 ///
 /// # Errors
 ///
@@ -218,7 +219,7 @@ fn open_and_make(
 }
 
 /// Does what Start of the bus driver does before option ROMs are loaded, and answers the children
-/// that it made. If it ends before that, the answer is how.
+/// that it made. If Start ends before that, the answer is how it ends.
 ///
 /// # Errors
 ///

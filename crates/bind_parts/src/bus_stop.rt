@@ -51,7 +51,8 @@ pub fn child_of_root(world: &World, controller: u64, child: u64) -> Option<Handl
     }
 }
 
-/// The interface of a protocol of a child, at the address of the firmware's.
+/// The interface of a protocol of a child, at the address of the firmware's interface, or at 0 if it
+/// has none.
 fn interface_to_go(world: &World, child: Handle, name: Known) -> HandleInterface
     ensures { result ≡ interface_to_go child (known_guid name) world.now.now.soft }
 {
@@ -62,7 +63,7 @@ fn interface_to_go(world: &World, child: Handle, name: Known) -> HandleInterface
     }
 }
 
-/// The address of an interface of the firmware, or 0.
+/// The address of an interface if the firmware owns it, or 0.
 fn firmware_address(found: Option<(u64, Handle)>) -> u64
     ensures { result ≡ firmware_address found }
 {
@@ -72,7 +73,7 @@ fn firmware_address(found: Option<(u64, Handle)>) -> u64
     }
 }
 
-/// Whether an interface is there, and the firmware's.
+/// Whether there is an interface and the firmware owns it.
 fn is_of_firmware(found: Option<(u64, Handle)>) -> bool
     ensures { result ≡ has_of_firmware found }
 {

@@ -1,4 +1,4 @@
-//! What a driver call enters, and around it.
+//! What a driver call enters, what it may spend and how it ends.
 ghost use Rattle.std.specs.Prelude.{◌≡◌, None};
 ghost use Rattle.world_model.specs.Thunks.{thunk_at};
 ghost use Rattle.driver_model.specs.Activations.{is_success};
@@ -9,7 +9,7 @@ use fw_types::{EventKind, Handle, Outcome, Status};
 use fw_world::World;
 use guest_memory::address_map::{BUS_BINDING, BUS_START, BUS_STOP, BUS_SUPPORTED};
 
-/// What a driver call may spend of what its caller has left.
+/// How many of the units that its caller has left a driver call may spend.
 pub fn allowance(world: &World, settings: &Settings) -> u64
     ensures { result ≡ allowance settings.now world.now.now }
 {
@@ -48,8 +48,8 @@ fn is_bus_driver_call(call: &Call) -> bool
     call.driver == Handle::bus_driver().get() && call.binding == BUS_BINDING
 }
 
-/// What is entered at an address that is no thunk's. A function of the bus driver is its
-/// own only by its own binding.
+/// What is entered at an address that is not a thunk's. A function of the bus driver counts as
+/// such only if it is called by the bus driver's own binding.
 fn native_code(call: &Call) -> Code
     ensures { result ≡ code_by None call.now }
 {
@@ -65,7 +65,7 @@ fn native_code(call: &Call) -> Code
     }
 }
 
-/// What is entered by a thunk, or else as native code.
+/// What is entered through the thunk at the address, or as native code if there is no thunk.
 fn code_behind(world: &World, call: &Call) -> Code
     ensures { result ≡ code_by (thunk_at call.now.address world.now.now.soft) call.now }
 {
@@ -75,8 +75,8 @@ fn code_behind(world: &World, call: &Call) -> Code
     }
 }
 
-/// What a driver call enters. An entry point is called at its address, and all else by a thunk or
-/// as native code.
+/// What a driver call enters. An entry point is called at its address, and anything else through
+/// a thunk or as native code.
 #[tactic(auto, unfolding(driver_model::specs::DriverCall::code_of))]
 pub fn code_of(world: &World, call: &Call) -> Code
     ensures { result ≡ code_value call.now world.now.now.soft }
@@ -89,7 +89,7 @@ pub fn code_of(world: &World, call: &Call) -> Code
     }
 }
 
-/// How a call ends whose run ends so.
+/// How a call ends if its run ends like this.
 pub fn outcome_of(end: RunEnd) -> Outcome
     ensures { result ≡ outcome_of end }
 {
@@ -109,7 +109,7 @@ pub fn is_success(outcome: Outcome) -> bool
     }
 }
 
-/// Whether a call that ended so commits. Supported never does.
+/// Whether a call of this kind that ended like this commits. Supported never does.
 pub fn commits(kind: CallKind, outcome: Outcome) -> bool
     ensures { result ≡ commits kind outcome }
 {

@@ -1,4 +1,4 @@
-//! Which uninstalls of several interfaces are refused before anything goes (UEFI 2.8, 7.3:
+//! Which uninstalls of several interfaces are refused before anything is removed (UEFI 2.8, 7.3:
 //! UninstallMultipleProtocolInterfaces).
 ghost use Rattle.std.specs.Prelude.{◌≡◌};
 ghost use Rattle.driver_model.specs.EarlyRefusal.{is_in_use, is_listed, is_refused_after, refused_early};
@@ -9,8 +9,9 @@ use fw_types::Attr;
 use fw_world::World;
 use service_model::HandleInterface;
 
-/// Whether an uninstall of several interfaces comes to a pair that is refused, with no record that
-/// is BY_CHILD_CONTROLLER, BY_DRIVER or EXCLUSIVE on an interface before it. Takes no memory.
+/// Whether an uninstall of several interfaces comes to a pair that is refused, and no interface
+/// before that pair has a record with BY_CHILD_CONTROLLER, BY_DRIVER or EXCLUSIVE. Takes no
+/// memory.
 pub fn is_refused_early(world: &World, interfaces: &[HandleInterface]) -> bool
     ensures { result ≡ refused_early interfaces.now world.now.now.soft }
 {
@@ -26,7 +27,8 @@ pub fn is_refused_early(world: &World, interfaces: &[HandleInterface]) -> bool
     false
 }
 
-/// Whether a pair is refused when those before it are gone: it is not there, or is the firmware's.
+/// Whether a pair is refused after those before it are gone: the handle does not have it, or the
+/// firmware owns it.
 fn is_refused_after(world: &World, before: &[HandleInterface], i: &HandleInterface) -> bool
     ensures { result ≡ is_refused_after before.now i.now world.now.now.soft }
 {
@@ -35,7 +37,7 @@ fn is_refused_after(world: &World, before: &[HandleInterface], i: &HandleInterfa
         || is_kept_from(world, Remover::ADriver, i)
 }
 
-/// Whether one of these pairs is of a pair's handle and protocol.
+/// Whether one of these pairs has the handle and the protocol of a pair.
 fn is_listed(i: &HandleInterface, pairs: &[HandleInterface]) -> bool
     ensures { result ≡ is_listed i.now pairs.now }
 {
@@ -44,7 +46,7 @@ fn is_listed(i: &HandleInterface, pairs: &[HandleInterface]) -> bool
         .any(|one| one.handle == i.handle && one.guid == i.guid)
 }
 
-/// Whether an interface has a record that is BY_CHILD_CONTROLLER, BY_DRIVER or EXCLUSIVE. Takes no
+/// Whether an interface has a record with BY_CHILD_CONTROLLER, BY_DRIVER or EXCLUSIVE. Takes no
 /// memory.
 fn is_in_use(world: &World, i: &HandleInterface) -> bool
     ensures { result ≡ is_in_use i.now world.now.now.soft }

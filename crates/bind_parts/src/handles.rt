@@ -19,7 +19,7 @@ pub fn live_handle(world: &World, number: u64) -> Option<Handle>
     Handle::new(number)
 }
 
-/// The children of a controller: of one agent, or of all.
+/// The children of a controller: those of one agent, or those of all.
 ///
 /// # Errors
 ///

@@ -1,10 +1,11 @@
-//! The parts of the driver model that call no driver: what ConnectController, DisconnectController,
-//! driver calls, runs of EBC code, and the load and unload of images look at and do between the
-//! drivers that they call (UEFI 2.8, 7.3, 7.4, 9.1, 11.1 and chapter 22). `engine` makes these calls
-//! out of them.
+//! The parts of the driver model that call no driver (UEFI 2.8, 7.3, 7.4, 9.1, 11.1 and chapter 22).
+//! They are what ConnectController, DisconnectController, driver calls, runs of EBC code, and the
+//! load and unload of images look at and do between the drivers that they call. `engine` puts these
+//! parts together and calls the drivers.
 //!
 //! - `asking`: which drivers ConnectController asks, how, and what it answers.
-//! - `driver_calls`: what a driver call enters, may spend and comes to; `settling`: how it ends.
+//! - `driver_calls`: what a driver call enters, may spend and comes to; `settling`: what is kept of
+//!   it.
 //! - `native_calls`: what a native call of EBC code goes to, with what arguments, and how it
 //!   returns.
 //! - `loading`, `unloading`: what the load and the unload of an image do around the call of its

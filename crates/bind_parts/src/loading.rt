@@ -48,7 +48,7 @@ pub fn failed(status: Status) -> ImageLoad
     }
 }
 
-/// The status of a load or an unload whose driver call ended so, if it failed.
+/// The status of a load or an unload whose driver call ended like this, if the call failed.
 pub fn failure(outcome: Outcome) -> Option<Status>
     ensures { result ≡ failure_of outcome }
 {
@@ -77,7 +77,7 @@ pub fn entry_call(image: Handle, entry: u64) -> Call
     }
 }
 
-/// Keeps an image whose entry point ended so, or puts the soft part back that the mark keeps.
+/// Keeps an image if its entry point succeeded, or puts back the soft part that the mark keeps.
 ///
 /// # Errors
 ///

@@ -1,4 +1,4 @@
-//! What native calls go to, with what arguments, and how they return.
+//! What native calls go to, what their arguments are, and how they return.
 ghost use Rattle.std.specs.Prelude.{◌≡◌, ◌<◌, ◌≤◌, IfOk, OnOk, length, map, true, unwrap_or};
 ghost use Rattle.guest_memory.specs.GuestMemory.{number_of};
 ghost use Rattle.ebc_machine.specs.Operands.{register};
@@ -53,7 +53,7 @@ pub fn callee(world: &World, target: u64) -> Callee
     }
 }
 
-/// Who calls a service: an image, at the level with this room.
+/// The caller of a service: an image, at the level with this room.
 pub fn caller(image: Handle, room: u8, cpu: &Cpu) -> Caller
     requires { room ≤ MOST_LEVELS }
     ensures { result ≡ caller_value image (level_with room) cpu.now }
@@ -65,7 +65,7 @@ pub fn caller(image: Handle, room: u8, cpu: &Cpu) -> Caller
     }
 }
 
-/// Whether a service is one of the boot services, and no function of PCI I/O.
+/// Whether a service is one of the boot services, not a function of PCI I/O.
 fn is_boot_service(service: Service) -> bool
     ensures { result ≡ is_boot_service service }
 {
@@ -107,7 +107,7 @@ pub fn serve_caller(
     }
 }
 
-/// Puts the value of a service into R7. The answer is how the run ends, if the service traps.
+/// Puts the value of a service into R7. If the service traps, the answer is how the run ends.
 pub fn take_answer(answer: Served, cpu: &mut Cpu) -> Option<RunEnd>
     ensures { (w : State) → returned plain cpu.old (answer, w)
         ≡ record { end = result; cpu = cpu.new; world = w } }
@@ -122,8 +122,8 @@ pub fn take_answer(answer: Served, cpu: &mut Cpu) -> Option<RunEnd>
     }
 }
 
-/// Puts the value of a thunk's code into R7. The answer is how the caller's run ends, if that code
-/// ended the driver call.
+/// Puts the value of a thunk's code into R7. If that code ended the driver call, the answer is how
+/// the caller's run ends.
 pub fn take_end(end: RunEnd, cpu: &mut Cpu) -> Option<RunEnd>
     ensures { (w : State) → thunk_returned plain cpu.old (end, w)
         ≡ record { end = result; cpu = cpu.new; world = w } }

@@ -1,4 +1,4 @@
-//! What an open and an uninstall make of the disconnect before them (UEFI 2.8, 7.3).
+//! What an open and an uninstall answer after the disconnect before them (UEFI 2.8, 7.3).
 ghost use Rattle.std.specs.Prelude.{◌≡◌, IfOk, OnOk};
 ghost use Rattle.world_model.specs.Marks.{stacks};
 ghost use Rattle.service_model.specs.SecondLook.{looked_again};
@@ -10,7 +10,7 @@ use leaf_services::reopen;
 use service_model::laws::{second_looks_end, second_looks_spend_nothing};
 use service_model::{Opening, Served};
 
-/// Whether an open or an uninstall answers what its disconnect answered.
+/// Whether an open or an uninstall passes on the status of its disconnect.
 pub fn is_passed_on(status: Status) -> bool
     ensures { result ≡ is_passed_on status }
 {

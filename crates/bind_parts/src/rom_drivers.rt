@@ -54,9 +54,9 @@ fn drivers_in(alloc: Global, rom: &[u8]) -> Result<Rows<Rows<u8>>, OutOfMemory>
     Ok(files)
 }
 
-/// The files of the drivers to load for a new child, in order. `None` exactly if it is not live any
-/// more, if its function has no option ROM, or if that was processed. They are copies, since loads
-/// change the world.
+/// The files of the drivers to load for a new child, in order. The answer is `None` exactly if the
+/// child is no longer live, if its function has no option ROM, or if that ROM was processed. The
+/// files are copies, since loads change the world.
 ///
 /// # Errors
 ///
@@ -76,7 +76,7 @@ pub fn drivers_to_load(
     }
 }
 
-/// Puts an image that stays loaded after others.
+/// Puts an image after others if it stays loaded.
 ///
 /// # Errors
 ///

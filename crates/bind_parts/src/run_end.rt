@@ -6,7 +6,7 @@ use driver_model::RunEnd;
 use ebc_machine::Cpu;
 use fw_types::{Cause, Outcome};
 
-/// How a run ends that reached its exit address.
+/// How a run ends if it reached its exit address.
 #[inline]
 pub fn exit_of(cpu: &Cpu) -> RunEnd
     ensures { result ≡ exit_of cpu.now }
@@ -14,7 +14,7 @@ pub fn exit_of(cpu: &Cpu) -> RunEnd
     RunEnd::Returned(cpu.r[7])
 }
 
-/// How a run ends that traps: with its driver call.
+/// How a run ends if it traps: its driver call ends with it.
 #[inline]
 pub fn trapped(cause: Cause) -> RunEnd
     ensures { result ≡ RunEnd.Over (Outcome.Trapped cause) }

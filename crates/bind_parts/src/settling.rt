@@ -9,7 +9,7 @@ use driver_model::CallKind;
 use fw_types::{OutOfMemory, Outcome};
 use fw_world::{Mark, World};
 
-/// Keeps what a call did that commits, or puts the soft part back that its mark keeps.
+/// Keeps what a call did if it commits, or puts back the soft part that its mark keeps.
 ///
 /// # Errors
 ///

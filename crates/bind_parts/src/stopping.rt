@@ -14,8 +14,8 @@ use fw_world::World;
 use guest_memory::address_map::{CHILD_LISTS, LIST_ROOM};
 use std::alloc::Global;
 
-/// Whether a handle that is given means nothing: the controller is not live, a driver has no
-/// binding, or a child is not live.
+/// Whether a handle that is given means nothing: the controller is not live, the driver has no
+/// binding, or the child is not live.
 fn is_meaningless(world: &World, d: &Disconnection) -> bool
     ensures { result ≡ is_meaningless d.now world.now.now.soft }
 {
@@ -66,7 +66,7 @@ fn has_any_record(world: &World, controller: Handle, agent: u64) -> Result<bool,
     has_record_of(world, controller, agent, Attr::ALL_BITS)
 }
 
-/// Whether a child is given that is none of a driver's.
+/// Whether the given child, if there is one, is not among a driver's children.
 pub fn is_of_another(child: u64, children: &[Handle]) -> bool
     ensures { is_of_another child children.now ≡ result }
 {
@@ -76,14 +76,14 @@ pub fn is_of_another(child: u64, children: &[Handle]) -> bool
     }
 }
 
-/// Whether a driver has no child left after those that are meant are stopped.
+/// Whether a driver has no child left after the children that are meant are stopped.
 pub fn are_all(child: u64, children: &[Handle]) -> bool
     ensures { are_all child children.now ≡ result }
 {
     child == 0 || (children.len() == 1 && children[0].get() == child)
 }
 
-/// The children that are stopped: the child that is given, or all of the driver's.
+/// The children that are stopped: the given child, or all children of the driver.
 ///
 /// # Errors
 ///
@@ -107,7 +107,7 @@ pub fn children_to_stop(
     Ok(stopped)
 }
 
-/// Where a call at the level with this room finds its list of children: NULL if there are none.
+/// Where a call at the level with this room finds its list of children, or NULL if there are none.
 fn list_address(room: u8, children: &[u64]) -> u64
     requires { room ≤ MOST_LEVELS }
     ensures { result ≡ list_address (level_with room) children.now }
@@ -165,7 +165,7 @@ pub fn close_children(
     Ok(())
 }
 
-/// Notes what a driver's turn came to.
+/// Notes the result of a driver's turn.
 ///
 /// # Errors
 ///
@@ -200,8 +200,8 @@ fn any_has_record(world: &World, controller: Handle, agents: &[u64]) -> Result<b
     Ok(false)
 }
 
-/// What DisconnectController answers after all turns: DEVICE_ERROR if a driver failed, or one that
-/// was stopped has a record on the controller now.
+/// What DisconnectController answers after all turns: DEVICE_ERROR if a driver failed, or if a
+/// driver that was stopped has a record on the controller now.
 ///
 /// # Errors
 ///

@@ -15,7 +15,7 @@ use fw_world::{World, WorldFault};
 use guest_memory::GuestMem;
 use world_model::laws::stacks_stand;
 
-/// The entry that the 4 signed bytes at a place name. They count from the address after them.
+/// The entry that the 4 bytes at a place name: a signed offset from the address after them.
 fn entry_from(place: u64, number: u64) -> u64
     requires { number < 256 ^ 4 }
     ensures { result ≡ entry_from place number }
@@ -24,9 +24,9 @@ fn entry_from(place: u64, number: u64) -> u64
     place.wrapping_add(4).wrapping_add_signed(signed)
 }
 
-/// The entry that is given at a place whose 8 bytes can be written; or why the code traps: `Memory`
-/// if the 4 bytes can't be read or the 8 can't be written, `Align` if the entry is odd, or `Fetch`
-/// if it is in no image.
+/// The entry that the 4 bytes at a place name, or why the code traps: `Memory` if those 4 bytes
+/// can't be read or the 8 bytes there can't be written, `Align` if the entry is odd, or `Fetch` if
+/// it is in no image.
 fn requested_entry(world: &World, place: u64) -> Result<u64, Cause>
     ensures value { result ≡ requested_entry place world.now.now.soft }
     ensures place { IfOk result (λ entry.
@@ -72,8 +72,8 @@ fn store_thunk(world: &mut World, place: u64, entry: u64) -> Result<Option<RunEn
 }
 
 /// Makes the thunk that the code asks for by the bytes at a place (UEFI 2.8, chapter 22, 'BREAK',
-/// code 5). The answer is how the run ends with it, if it does: for `Memory`, `Align`, `Fetch` or
-/// `Thunks`, which are met in this order. The registers stay.
+/// code 5). If the run ends with this, the answer is how: it traps with `Memory`, `Align`, `Fetch`
+/// or `Thunks`, which are checked in this order. The registers stay as they are.
 ///
 /// # Errors
 ///

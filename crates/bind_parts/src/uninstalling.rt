@@ -14,7 +14,8 @@ use handle_db::DbRefusal;
 use service_model::HandleInterface;
 use service_model::laws::images_do_not_last;
 
-/// Whether the handle has the interface. For the firmware, one of another owner is not there.
+/// Whether the handle has the interface. If the firmware asks, an interface of another owner does
+/// not count.
 pub fn is_first_there(world: &World, remover: Remover, i: &HandleInterface) -> bool
     ensures { result ≡
         is_first_there remover i.now.interface (interface_on i.now world.now.now.soft) }
@@ -28,7 +29,7 @@ pub fn is_first_there(world: &World, remover: Remover, i: &HandleInterface) -> b
     }
 }
 
-/// Whether the firmware owns the interface, and a driver asks, so that it may not go.
+/// Whether a driver asks and the firmware owns the interface, so that it must stay.
 pub fn is_kept_from(world: &World, remover: Remover, i: &HandleInterface) -> bool
     ensures { result ≡ is_kept_from remover (interface_on i.now world.now.now.soft) }
 {
@@ -41,7 +42,7 @@ pub fn is_kept_from(world: &World, remover: Remover, i: &HandleInterface) -> boo
     }
 }
 
-/// Whether the handle still has the interface, and it is the remover's to uninstall.
+/// Whether the handle still has the interface, and the remover may uninstall it.
 fn is_still_there(world: &World, remover: Remover, i: &HandleInterface) -> bool
     ensures { result ≡
         is_still_there remover i.now.interface (interface_on i.now world.now.now.soft) }
@@ -55,8 +56,8 @@ fn is_still_there(world: &World, remover: Remover, i: &HandleInterface) -> bool
     }
 }
 
-/// The handle of the interface, if it still has it, and it is the remover's to uninstall. The
-/// firmware uninstalls none of a protocol that has lasting interfaces.
+/// The handle of the interface, if it still has the interface and the remover may uninstall it.
+/// The firmware uninstalls no interface of a protocol that has lasting interfaces.
 pub fn handle_to_clear(world: &World, remover: Remover, i: &HandleInterface) -> Option<Handle>
     requires { may_go remover i.now ≡ true }
     ensures there { result ≡
@@ -77,7 +78,7 @@ pub fn handle_to_clear(world: &World, remover: Remover, i: &HandleInterface) -> 
     }
 }
 
-/// The driver that manages the handle by the interface, if one does. Takes no memory.
+/// The driver that manages the handle through the interface, if there is one. Takes no memory.
 pub fn manager_on(world: &World, i: &HandleInterface) -> Option<u64>
     ensures { result ≡ manager_on i.now world.now.now.soft }
 {
@@ -104,7 +105,7 @@ pub fn remove_interface(world: &mut World, handle: Handle, guid: Guid) -> Result
     }
 }
 
-/// Keeps what several uninstalls did if all succeeded, or puts the soft part back that their mark
+/// Keeps what several uninstalls did if all succeeded, or puts back the soft part that their mark
 /// keeps.
 ///
 /// # Errors

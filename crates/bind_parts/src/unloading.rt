@@ -24,7 +24,7 @@ const BLOCK_SIZE: u64 = 96;
 /// The offset of Unload in a loaded image block.
 const HANDLER: usize = 88;
 
-/// The handler that the bytes of a loaded image block name.
+/// The handler that these bytes of a loaded image block name.
 #[tactic(auto, unfolding(fw_types::specs::Layout::uint64_at))]
 fn handler_in(block: &[u8]) -> u64
     requires { length block.now ≡ block_size }
@@ -58,7 +58,7 @@ pub fn unload_call(image: Handle, handler: u64) -> Call
     }
 }
 
-/// Puts the soft part back that the mark keeps if an image is in use, or else drops the image.
+/// Puts back the soft part that the mark keeps if an image is in use, and otherwise drops the image.
 ///
 /// # Errors
 ///
@@ -83,15 +83,15 @@ fn drop_unless_in_use(world: &mut World, mark: Mark, image: Handle) -> Result<St
     stacks_stand();
     world.commit(mark);
     world.is_kept();
-    // An image that is not loaded any more leaves nothing to drop.
+    // If the image is no longer loaded, there is nothing to drop.
     let _ = drop_all(world, image);
     Ok(Status::SUCCESS)
 }
 
-/// Ends the unload of an image whose handler ended so. If that failed, the status is its value, or
-/// ABORTED, and the handler's call has undone what it did. If the image is in use, the soft part is
-/// put back that the mark keeps, and the status is ACCESS_DENIED. Otherwise the image is dropped. No
-/// other mark is open.
+/// Ends the unload of an image whose handler ended like this. If the handler failed, the status is
+/// its value, or ABORTED, and its call has already undone what it did. If the image is in use, the
+/// soft part that the mark keeps is put back, and the status is ACCESS_DENIED. Otherwise the image
+/// is dropped. No other mark is open.
 ///
 /// # Errors
 ///

@@ -18,7 +18,7 @@ use Rattle.world_model.specs.World.{Soft}
 use Rattle.world_model.specs.Kept.{IsKept}
 use Rattle.driver_model.specs.StopOrder.{has_child}
 
--- ---- the attributes of records are legal, and only one of these has the bit of a child
+-- ---- the attributes of records are legal, and only one legal attribute has the bit of a child
 
 abbrev has_legal : Rec → Bool
 has_legal rec = is_legal rec.attr
@@ -42,7 +42,7 @@ module _ (handle : ℕ) where
       ∙ and_from (list_all has_legal (records_of entries handle protocol.0)) (list_all has_legal (records_on entries handle protocols))
       (legal_of protocol.0 entries kept) (legal_on entries protocols kept)
 
--- a test that holds of some numbers holds of each that is one of them
+-- a test that holds for some numbers holds for each one of them
 one_of : (test : ℕ → Bool) (number : ℕ) (numbers : List ℕ) → list_any (nat_eq number) numbers ≡ true → list_all test numbers ≡ true → test number ≡ true
 one_of test number [] there all = cc
 one_of test number (first ∷ numbers) there all =
@@ -63,7 +63,7 @@ child_bit attr legal =
     let same = λ (bits : ℕ). if has_bit_of BY_CHILD_CONTROLLER bits then nat_eq bits BY_CHILD_CONTROLLER else not (nat_eq bits BY_CHILD_CONTROLLER) in
     equal_by (has_bit_of BY_CHILD_CONTROLLER attr) (nat_eq attr BY_CHILD_CONTROLLER) (one_of same attr legal_attributes legal refl)
 
--- ---- one number among those that are each taken once
+-- ---- one number among numbers that are each taken once
 
 or_same : (first one other : Bool) → (first ≡ false → one ≡ other) → (first || one) ≡ (first || other)
 or_same true one other same = refl
@@ -129,7 +129,7 @@ module _ (agent child : ℕ) (real : nat_eq child 0 ≡ false) where
       let records = records_on soft.records.entries controller (protocols_of controller soft.database) in
       sym (any_once child (child_numbers (Some agent) records) ∙ any_child records (legal_on controller soft.records.entries (protocols_of controller soft.database) kept.records.sound.kept))
 
--- 0 is no child
+-- 0 is not a child
 no_null : (agent : ℕ) (records : List Rec) → list_any (nat_eq 0) (child_numbers (Some agent) records) ≡ false
 no_null agent [] = refl
 no_null agent (rec ∷ records) = elim (cases_Bool (is_child (Some agent) rec)) [

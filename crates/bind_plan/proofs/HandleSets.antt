@@ -1,4 +1,4 @@
--- Sets of handles, and lists of drivers that are looked for in them.
+-- Sets of handles, and the drivers whose handles are looked up in them.
 use Rattle.std.proofs.Common.{◌≡◌, ℕ, ◌+◌, ◌<◌, Bool, true, false, not, ◌||◌, cond, nat_eq, List, [], ◌∷◌, ◌++◌, length, take, get_or, map, reverse, refl, sym, ap, ◌∙◌, arith}
 use Rattle.std.specs.Prelude.{filter, if◌then◌else◌}
 use Rattle.std.specs.List.{list_any}
@@ -12,14 +12,14 @@ use Rattle.driver_model.specs.OrderLaws.{is_among, is_handle}
 use Rattle.driver_model.specs.declared.binding.BindingBlock.{BindingBlock}
 use Rattle.bind_plan.specs.HandleSet.{AreHandlesOf, IsSetOf}
 
--- numbers that are equal in their order are equal
+-- numbers that compare as equal are equal
 is_eq-nat_cmp : (a b : ℕ) → is_eq (nat_cmp a b) ≡ nat_eq a b
 is_eq-nat_cmp a b = grind (arith, nat_tests)
 
 nat_eq-sym : (a b : ℕ) → nat_eq a b ≡ nat_eq b a
 nat_eq-sym a b = grind (arith, nat_tests)
 
--- one number more, which is among those of before or was not
+-- one more number, whether or not the set had it before
 by_test : (here there : Bool) → cond here true there ≡ (there || here)
 by_test true true = refl
 by_test true false = refl
@@ -32,7 +32,7 @@ module _ (old new : BTreeSet ℕ) (number : ℕ) (updates : Updates nat_cmp old 
       updates.0 q ∙ ap (λ (here : Bool). cond here true (contains nat_cmp old q)) (is_eq-nat_cmp number q)
       ∙ by_test (nat_eq number q) (contains nat_cmp old q)
 
--- a number of a list goes into the set of those before it
+-- the next number of a list is added to the set of those before it
 pub set_more : (old new : BTreeSet ℕ) (numbers : List ℕ) (i : ℕ) → Updates nat_cmp old new (get_or numbers i 0) true → i < length numbers → IsSetOf (take i numbers) old → IsSetOf (take (i + 1) numbers) new
 set_more old new numbers i updates lt of q =
     has_more old new (get_or numbers i 0) updates q
@@ -40,7 +40,7 @@ set_more old new numbers i updates lt of q =
     ∙ ap (λ (here : Bool). list_any (nat_eq q) (take i numbers) || here) (nat_eq-sym (get_or numbers i 0) q)
     ∙ sym (list_any_more (nat_eq q) numbers i 0 lt)
 
--- a number goes into the set of others, of which it becomes the first
+-- a number is added to the set of a list, and becomes the first of that list
 pub set_with_first : (old new : BTreeSet ℕ) (numbers : List ℕ) (number : ℕ) → Updates nat_cmp old new number true → IsSetOf numbers old → IsSetOf (number ∷ numbers) new
 set_with_first old new numbers number updates of q =
     has_more old new number updates q
@@ -54,11 +54,11 @@ set_with_first old new numbers number updates of q =
     or_swap false true = refl
     or_swap false false = refl
 
--- the last one put to a list is the first from its end
+-- the last number of a list is the first of the reversed list
 pub reverse_with_last : (numbers : List ℕ) (number : ℕ) → reverse (numbers ++ number ∷ []) ≡ number ∷ reverse numbers
 reverse_with_last numbers number = reverse-append numbers (number ∷ [])
 
--- a driver that is not in the set of the others comes after them, and its handle into the set
+-- a driver whose handle is not in the set of the others is put after them, and its handle is added to the set
 module _ (old new : BTreeSet ℕ) (block : BindingBlock) (updates : Updates nat_cmp old new block.handle true) (drivers : List BindingBlock) (of : AreHandlesOf drivers old) where
   same_test : (q : ℕ) → list_any (is_handle q) (block ∷ []) ≡ nat_eq block.handle q
   same_test q = by_last (nat_eq block.handle q)
@@ -74,7 +74,7 @@ module _ (old new : BTreeSet ℕ) (block : BindingBlock) (updates : Updates nat_
       ∙ ap (λ (here : Bool). list_any (is_handle q) drivers || here) (sym (same_test q))
       ∙ sym (list_any-append (is_handle q) drivers (block ∷ []))
 
--- ---- the drivers outside of a set
+-- ---- the drivers outside a set
 
 filter_same : (p q : BindingBlock → Bool) → ((block : BindingBlock) → p block ≡ q block) → (blocks : List BindingBlock) → filter p blocks ≡ filter q blocks
 filter_same p q same [] = refl
@@ -87,7 +87,7 @@ pub outside_is_unmarked : (set : BTreeSet ℕ) (handles : List ℕ) (blocks : Li
 outside_is_unmarked set handles blocks of =
     filter_same (λ (block : BindingBlock). not (contains nat_cmp set block.handle)) (λ (block : BindingBlock). not (is_marked handles block)) (λ block. ap not (of block.handle)) blocks
 
--- the handles of drivers mark these drivers
+-- the handles of drivers mark exactly these drivers
 among_marked : (chosen : List BindingBlock) (block : BindingBlock) → is_marked (map (λ (one : BindingBlock). one.handle) chosen) block ≡ is_among chosen block
 among_marked [] block = refl
 among_marked (one ∷ chosen) block =

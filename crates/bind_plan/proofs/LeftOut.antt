@@ -1,5 +1,5 @@
--- Lists from which drivers are left out: reading bindings, first places and the order by Version come to the same
--- before and after.
+-- Lists from which drivers are left out. Reading bindings, taking first places and ordering by Version give the same,
+-- whether the drivers are left out before or after it.
 use Rattle.std.proofs.Common.{◌≡◌, ℕ, Bool, true, false, not, ◌||◌, nat_eq, List, [], ◌∷◌, ◌++◌, length, refl, sym, ap, ◌∙◌, inl, inr, arith}
 use Rattle.std.specs.Prelude.{Option, Some, None, filter, if◌then◌else◌}
 use Rattle.std.specs.List.{cons_option, list_all, list_any}
@@ -23,7 +23,7 @@ use Rattle.bind_plan.specs.Unmarked.{unmarked_binding, unmarked_bindings}
 -- ---- two tests
 
 module _ (p q : BindingBlock → Bool) where
-  -- it is the same which of two tests comes first
+  -- it does not matter which of two tests comes first
   pub filter_swap : (blocks : List BindingBlock) → filter p (filter q blocks) ≡ filter q (filter p blocks)
   filter_swap [] = refl
   filter_swap (block ∷ blocks) =
@@ -47,7 +47,7 @@ module _ (p q : BindingBlock → Bool) where
         | inr other ↦ rw (other, fails block other) (filter_within fails blocks)
       ]
 
--- two tests that agree on what passes a third one
+-- two tests that agree on whatever passes a third one
 filter_agreed : (p q r : BindingBlock → Bool) → ((block : BindingBlock) → p block ≡ true → q block ≡ r block) → (blocks : List BindingBlock)
     → filter q (filter p blocks) ≡ filter p (filter r blocks)
 filter_agreed p q r agree [] = refl
@@ -105,7 +105,7 @@ any-inserted test block (other ∷ others) =
       | inr later ↦ rw later (ap (λ (b : Bool). test other || b) (any-inserted test block others) ∙ or-swap (test other) (test block) (list_any test others))
     ]
 
--- what comes before a driver comes before all that don't precede that
+-- a driver that precedes another also precedes all that do not precede that other
 all_preceded : (one other : BindingBlock) (blocks : List BindingBlock) → precedes one other ≡ true → list_any (before other) blocks ≡ false → list_all (precedes one) blocks ≡ true
 all_preceded one other [] first none = refl
 all_preceded one other (third ∷ blocks) first none =
@@ -170,7 +170,7 @@ module _ (p : BindingBlock → Bool) where
             | inr out ↦ rw out rest
           ]
 
-  -- drivers that are left out before the sort, or after it
+  -- drivers are left out before the sort or after it
   pub by_version_left : (blocks : List BindingBlock) → by_version (filter p blocks) ≡ filter p (by_version blocks)
   by_version_left [] = refl
   by_version_left (block ∷ blocks) =
@@ -190,7 +190,7 @@ module _ (marked : List ℕ) where
   pub unmarked_append : (blocks others : List BindingBlock) → unmarked marked (blocks ++ others) ≡ unmarked marked blocks ++ unmarked marked others
   unmarked_append blocks others = filter-append stays blocks others
 
-  -- drivers with one handle are marked alike
+  -- drivers with the same handle are marked alike
   marked_alike : (block other : BindingBlock) → not (nat_eq other.handle block.handle) ≡ false → stays block ≡ false → stays other ≡ false
   marked_alike block other same gone =
       let equal : other.handle ≡ block.handle = grind (arith, nat_tests) in
@@ -209,7 +209,7 @@ module _ (marked : List ℕ) where
             rw out (first_places_left blocks ∙ sym (filter_within stays others (λ other same. marked_alike block other same out) (first_places blocks)))
       ]
 
-  -- three groups of drivers, each of which is read without the marked ones
+  -- three groups of drivers, each read without the marked ones
   pub chosen_left : (context platform bus : List BindingBlock)
       → first_places ((unmarked marked context ++ unmarked marked platform) ++ unmarked marked bus) ≡ unmarked marked (first_places ((context ++ platform) ++ bus))
   chosen_left context platform bus =
@@ -217,7 +217,7 @@ module _ (marked : List ℕ) where
       ∙ ap first_places (sym (filter-append stays (context ++ platform) bus))
       ∙ first_places_left ((context ++ platform) ++ bus)
 
-  -- a driver that is not marked is among others exactly if it is among the unmarked ones of them
+  -- a driver that is not marked is among others exactly if it is among the unmarked ones
   among_left : (chosen : List BindingBlock) (block : BindingBlock) → stays block ≡ true → is_among (unmarked marked chosen) block ≡ is_among chosen block
   among_left chosen block here =
       any-filter_same (is_handle block.handle) stays true
@@ -236,7 +236,7 @@ module _ (marked : List ℕ) where
       (filter_agreed stays (λ block. not (is_among (unmarked marked chosen) block)) (λ block. not (is_among chosen block)) (λ block here. ap not (among_left chosen block here)) (by_version all))
       ∙ sym (filter-append stays chosen (filter (λ block. not (is_among chosen block)) (by_version all)))
 
-  -- the same of lists that come to its parts
+  -- the same, for lists that are equal to its parts
   pub order_by_parts : (chosen sorted first all whole : List BindingBlock) → chosen ≡ unmarked marked first → sorted ≡ by_version (unmarked marked all)
       → whole ≡ first ++ filter (λ block. not (is_among first block)) (by_version all)
       → chosen ++ filter (λ block. not (is_among chosen block)) sorted ≡ unmarked marked whole
@@ -271,7 +271,7 @@ module _ (marked : List ℕ) where
         ap (λ (rest : List BindingBlock). cons_option (unmarked_binding marked handle soft) rest) (bindings_left handles)
         ∙ step_left handle (interface_of handle (known_guid DriverBinding) soft.database) (bindings_of handles soft)
 
--- ---- none is left out
+-- ---- no driver is left out
 
 pub none_marked : (blocks : List BindingBlock) → unmarked [] blocks ≡ blocks
 none_marked [] = refl

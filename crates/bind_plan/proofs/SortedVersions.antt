@@ -10,7 +10,7 @@ use Rattle.driver_model.specs.DriverOrder.{by_version}
 use Rattle.driver_model.specs.OrderLaws.{FallingIsByVersion, has_version, has_version_up_to, is_by_handle, is_falling}
 use Rattle.driver_model.specs.declared.binding.BindingBlock.{BindingBlock}
 
--- whether the Version of one is greater than the other's
+-- whether the Version of the first is greater than that of the second
 abbrev pub is_higher : BindingBlock → BindingBlock → Bool
 is_higher one other = is_lt (nat_cmp other.version one.version)
 
@@ -42,7 +42,7 @@ falling_from_sort (block ∷ other ∷ others) sorted =
 ties_are : (block other : BindingBlock) → ties is_higher block other ≡ has_version block.version other
 ties_are block other = grind (arith, nat_tests)
 
--- drivers that are sorted by falling Version, those with the same one in their order by handle, are in their order by Version
+-- drivers that are sorted by falling Version, those of equal Version by handle, are in their order by Version
 pub by_version_from_sort : FallingIsByVersion → (blocks sorted : List BindingBlock) → is_by_handle blocks ≡ true → IsSortedBy is_higher sorted → IsStableBy is_higher blocks sorted → sorted ≡ by_version blocks
 by_version_from_sort law blocks sorted rising falls stable =
     law blocks sorted rising (falling_from_sort sorted falls)

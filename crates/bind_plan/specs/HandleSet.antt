@@ -6,10 +6,10 @@ use Rattle.std.specs.BTreeSet.{BTreeSet, contains}
 use Rattle.driver_model.specs.OrderLaws.{is_handle}
 use Rattle.driver_model.specs.declared.binding.BindingBlock.{BindingBlock}
 
--- a set has the numbers of a list, and no other
+-- a set has the numbers of a list, and no others
 abbrev pub IsSetOf : List ℕ → BTreeSet ℕ → Type 0
 IsSetOf numbers set = (number : ℕ) → contains nat_cmp set number ≡ list_any (nat_eq number) numbers
 
--- a set has the handles of drivers, and no other
+-- a set has the handles of drivers, and no others
 abbrev pub AreHandlesOf : List BindingBlock → BTreeSet ℕ → Type 0
 AreHandlesOf drivers set = (handle : ℕ) → contains nat_cmp set handle ≡ list_any (is_handle handle) drivers

@@ -9,8 +9,8 @@ use fw_types::{Guid, Handle, OutOfMemory};
 use fw_world::World;
 use open_records::Records;
 
-/// Whether an agent has a record on the interfaces of some protocols of a handle, for a controller if one
-/// is given, with one of these bits.
+/// Whether an agent has a record with one of these bits on the interfaces of some protocols of a handle.
+/// If a controller is given, the record must be for it.
 fn is_among_records(
     records: &Records,
     handle: Handle,
@@ -30,8 +30,8 @@ fn is_among_records(
     false
 }
 
-/// Whether an agent has a record on a handle, for a controller if one is given, with one of these bits
-/// (UEFI 2.8, 7.3: OpenProtocol).
+/// Whether an agent has a record with one of these bits on a handle (UEFI 2.8, 7.3: OpenProtocol). If a
+/// controller is given, the record must be for it.
 ///
 /// # Errors
 ///

@@ -1,4 +1,4 @@
-//! Driver bindings, as their bytes in guest memory say.
+//! Driver bindings, read from their bytes in guest memory.
 ghost use Rattle.std.specs.Prelude.{◌≡◌, length, IfOk};
 ghost use Rattle.driver_model.specs.Bindings.{all_bindings, binding as binding_value, bindings_of, block_at as block_value, block_of};
 ghost use Rattle.driver_model.specs.Connect.{unmarked};
@@ -10,9 +10,9 @@ use driver_model::{BINDING_SIZE, BindingBlock};
 use fw_types::{Guid, Handle, Known, OutOfMemory};
 use fw_world::World;
 
-/// The driver binding of a handle, or `None` exactly if no live handle has the number `handle`, it has no
-/// driver binding, or the 48 bytes of that can't be read (UEFI 2.8, 11.1: EFI Driver Binding Protocol).
-/// The bytes are read at each call. Takes no memory.
+/// The driver binding of a handle, or `None` exactly if no live handle has the number `handle`, the
+/// handle has no driver binding, or the binding's 48 bytes can't be read (UEFI 2.8, 11.1: EFI Driver
+/// Binding Protocol). The bytes are read at each call. Takes no memory.
 pub fn binding(world: &World, handle: u64) -> Option<BindingBlock>
     ensures { result ≡ binding_value handle world.now.now.soft }
 {
@@ -34,7 +34,7 @@ fn block_at(world: &World, handle: Handle, at: u64) -> Option<BindingBlock>
     Some(block_of(handle, at, world.bytes(at, BINDING_SIZE)))
 }
 
-/// The binding that bytes say.
+/// The binding that these bytes hold.
 #[tactic(auto, unfolding(fw_types::specs::Layout::uint32_at, fw_types::specs::Layout::uint64_at))]
 fn block_of(handle: Handle, at: u64, bytes: &[u8]) -> BindingBlock
     requires { length bytes.now ≡ BINDING_SIZE }
@@ -51,7 +51,7 @@ fn block_of(handle: Handle, at: u64, bytes: &[u8]) -> BindingBlock
     }
 }
 
-/// The binding of a handle, if that is not marked. The binding of a marked one is not read.
+/// The binding of a handle, if the handle is not marked. The binding of a marked handle is not read.
 fn unmarked_binding(world: &World, handle: u64, marked: &StartedDrivers) -> Option<BindingBlock>
     ensures { result ≡ unmarked_binding marked.now handle world.now.now.soft }
 {

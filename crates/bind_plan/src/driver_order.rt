@@ -20,14 +20,15 @@ use std::collections::BTreeSet;
 
 /// The drivers that ConnectController asks for `controller`, in their order (UEFI 2.8, 7.3:
 /// ConnectController, its rules of precedence). First come the drivers of `context`, the handles that the
-/// caller gives; then those of `platform`, the platform driver override's list for the controller; then
-/// those of the bus specific driver override; and last all that have a driver binding, the highest Version
-/// first, and of equal Versions the lowest handle. Each driver is there once, at its first place, and only
-/// if its binding can be read (`binding`).
+/// caller gives. Then come those of `platform`, the platform driver override's list for the controller, and
+/// then those of the bus specific driver override. Last come all handles that have a driver binding, the
+/// highest Version first, and of equal Versions the lowest handle. Each driver is listed once, at its first
+/// place, and only if its binding can be read (`binding`).
 ///
-/// A handle in `platform` that has no binding means the drivers of which it is the ImageHandle, by rising
-/// handle; one in `context` means none. The bus specific driver override's list is that of the function of
-/// which the controller is a child (`World::bus_list`), and a handle in it means what it means in `platform`.
+/// A handle in `platform` that has no binding means the drivers whose ImageHandle it is, by rising handle. In
+/// `context` such a handle means no driver. The bus specific driver override's list is that of the function
+/// of which the controller is a child (`World::bus_list`), and a handle in it means what it means in
+/// `platform`.
 ///
 /// # Errors
 ///
@@ -47,7 +48,7 @@ pub fn order(
 }
 
 /// The drivers of the order that are not marked. The binding of a marked handle is read only if the platform
-/// or the bus specific list names it.
+/// list or the bus specific list names it.
 ///
 /// # Errors
 ///
@@ -72,7 +73,7 @@ pub fn order_of_unmarked(
     with_others(world.alloc(), chosen, all)
 }
 
-/// The unmarked drivers before those that go by Version, each once.
+/// The unmarked drivers that come before those ordered by Version, each once.
 #[tactic(auto, using(crate::proofs::LeftOut::chosen_left))]
 fn chosen_first(
     world: &World,
@@ -95,7 +96,8 @@ fn chosen_first(
     first_places(world.alloc(), groups.as_slice())
 }
 
-/// The unmarked drivers of the bus specific driver override for a controller: none if it is no child of the bus.
+/// The unmarked drivers of the bus specific driver override for a controller: none if the controller is not a
+/// child of the bus.
 fn bus_drivers_of(
     world: &World,
     controller: Handle,
@@ -196,7 +198,7 @@ fn first_places(alloc: Global, blocks: &[BindingBlock]) -> Result<Vec<BindingBlo
     Ok(places)
 }
 
-/// Sorts drivers that go by rising handle: the highest Version comes first, and of equal Versions the
+/// Sorts drivers that are listed by rising handle: the highest Version comes first, and of equal Versions the
 /// lowest handle.
 fn sort_by_version(blocks: &mut Vec<BindingBlock>) -> Result<(), OutOfMemory>
     requires { is_by_handle blocks.old.items ≡ true }
@@ -207,7 +209,7 @@ fn sort_by_version(blocks: &mut Vec<BindingBlock>) -> Result<(), OutOfMemory>
     Ok(())
 }
 
-/// The drivers that are chosen, and after them those of others that are not, in their order.
+/// The chosen drivers, and after them those of the others that are not among them, in their order.
 fn with_others(
     alloc: Global,
     chosen: Vec<BindingBlock>,
@@ -226,7 +228,7 @@ fn with_others(
     Ok(blocks)
 }
 
-/// The drivers of a list that are none of those chosen, in their order.
+/// The drivers of a list that are not among the chosen ones, in their order.
 fn without(
     alloc: Global,
     blocks: &[BindingBlock],

@@ -1,4 +1,4 @@
-//! Sets of handles: whether one has a driver is found without a walk over all that are in it.
+//! Sets of handles: a driver is found in such a set without a walk over all of it.
 ghost use Rattle.std.specs.Prelude.{◌≡◌, ◌++◌, ◌∷◌, [], not, filter, map, IfOk, OnOk, if◌then◌else◌};
 ghost use Rattle.std.specs.Ordering.{nat_cmp};
 ghost use Rattle.std.specs.BTreeSet.{contains};
@@ -23,7 +23,7 @@ fn set_of(alloc: Global, numbers: &[u64]) -> Result<BTreeSet<u64>, OutOfMemory>
     Ok(set)
 }
 
-/// The drivers of a list whose handles are none of a set, in their order.
+/// The drivers of a list whose handles are not in a set, in their order.
 fn drivers_outside(
     alloc: Global,
     blocks: &[BindingBlock],
@@ -41,7 +41,7 @@ fn drivers_outside(
     Ok(others)
 }
 
-/// The drivers of a list whose handles are none of these, in their order.
+/// The drivers of a list whose handles are not among these, in their order.
 #[tactic(auto, using(crate::proofs::HandleSets::outside_is_unmarked))]
 pub fn drivers_without(
     alloc: Global,
@@ -54,7 +54,8 @@ pub fn drivers_without(
     drivers_outside(alloc, blocks, &set)
 }
 
-/// Puts a driver after others if its handle is not in the set of theirs, and the handle into the set.
+/// Puts a driver after others if its handle is not in the set of their handles, and adds its handle
+/// to the set.
 pub fn add_unseen(
     drivers: &mut Vec<BindingBlock>,
     handles: &mut BTreeSet<u64>,

@@ -2,11 +2,11 @@
 //! DisconnectController).
 //!
 //! `bindings` reads driver bindings out of guest memory. `driver_order` has the order in which
-//! ConnectController asks drivers whether they support a controller, and `stop_order` the list of drivers
-//! that DisconnectController stops; `agent_records` says whether an agent has a record on a controller. `numbers`
-//! has handles as numbers, and `handle_set` and `started_drivers` sets of them, which find a driver among many. No call changes the
-//! world, and each answers what the definitions of `driver_model` say: `specs/Bindings.antt`,
-//! `DriverOrder.antt` and `StopOrder.antt`.
+//! ConnectController asks drivers whether they support a controller, and `stop_order` has the list of drivers
+//! that DisconnectController stops. `agent_records` says whether an agent has a record on a controller.
+//! `numbers` has handles as numbers. `handle_set` and `started_drivers` have sets of handles, which find a
+//! driver among many. No call changes the world, and each answers what the definitions of `driver_model` say:
+//! `specs/Bindings.antt`, `DriverOrder.antt` and `StopOrder.antt`.
 #![tactic(auto)]
 
 mod agent_records;

@@ -7,8 +7,8 @@ use std::alloc::Global;
 use std::collections::BTreeSet;
 use std::marker::Model;
 
-/// The handles of the drivers that a connect has started, the newest first. Whether one is among them is found without a walk
-/// over all.
+/// The handles of the drivers that a connect has started, the newest first. Whether a handle is among them is
+/// found without a walk over all of them.
 #[derive(Drop)]
 pub struct StartedDrivers {
     handles: Vec<u64>,
@@ -27,7 +27,7 @@ impl Model for StartedDrivers {
 }
 
 impl StartedDrivers {
-    /// No driver. Takes no memory.
+    /// No drivers. Takes no memory.
     pub fn new(alloc: Global) -> StartedDrivers
         ensures { result ≡ [] }
     {
@@ -37,7 +37,7 @@ impl StartedDrivers {
         }
     }
 
-    /// StartedDrivers a handle.
+    /// Adds a handle, as the newest.
     ///
     /// # Errors
     ///

@@ -8,10 +8,10 @@ use fw_world::World;
 use std::alloc::Global;
 
 /// The drivers that DisconnectController stops for `controller`, in their order (UEFI 2.8, 7.3:
-/// DisconnectController): those that manage it; of these only `driver`, unless it is 0; and of these, unless
-/// `child` is 0, only those that have the child open there by BY_CHILD_CONTROLLER. `None` comes exactly if
-/// some of the drivers remain before the child is looked at, and none has it: DisconnectController answers
-/// NOT_FOUND then.
+/// DisconnectController): those that manage it. If `driver` is not 0, all others are left out. If `child`
+/// is not 0, all drivers that do not have the child open there by BY_CHILD_CONTROLLER are left out. The
+/// answer is `None` exactly if some drivers remain before the child is looked at, and none of them has the
+/// child. DisconnectController answers NOT_FOUND then.
 ///
 /// # Errors
 ///
@@ -48,7 +48,7 @@ fn drivers_meant(alloc: Global, managers: Vec<u64>, driver: u64) -> Result<Vec<u
     equal_to(alloc, managers.as_slice(), driver)
 }
 
-/// The numbers of a list that are this one.
+/// The numbers of a list that are equal to a number.
 fn equal_to(alloc: Global, numbers: &[u64], number: u64) -> Result<Vec<u64>, OutOfMemory>
     ensures { IfOk result (λ equal. equal.items ≡ filter (nat_eq number) numbers.now) }
 {
@@ -77,7 +77,7 @@ fn parents_of(
     Ok(parents)
 }
 
-/// Puts an agent after others, if it has the child open on the controller.
+/// Puts an agent after others if it has the child open on the controller.
 fn add_parent(
     parents: &mut Vec<u64>,
     world: &World,
@@ -94,7 +94,7 @@ fn add_parent(
     Ok(())
 }
 
-/// Whether an agent has the child open on the controller. The handle 0 is no child.
+/// Whether an agent has the child open on the controller. The handle 0 is not a child.
 fn has_child(world: &World, controller: Handle, child: u64, agent: u64) -> Result<bool, OutOfMemory>
     ensures { IfOk result (λ has. has ≡ has_child_value controller child world.now.now.soft agent) }
 {

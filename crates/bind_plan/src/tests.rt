@@ -12,7 +12,7 @@ fn numbered(rt: &impl Abort, number: u64) -> Handle {
     Handle::new(number).expect(rt, "a handle's number is not 0")
 }
 
-/// `room` bytes and after them a binding's 48, with three functions, a Version and two handles.
+/// `room` bytes and after them the 48 bytes of a binding, with three functions, a Version and two handles.
 fn binding_bytes(
     alloc: Global,
     room: usize,
@@ -39,7 +39,7 @@ fn add_driver(world: &mut World, version: u32, image: u64) -> Result<Handle, Fai
     Ok(world.install(None, name, at, Handle::firmware())?)
 }
 
-/// A new handle whose driver binding lies at the end of a block, without its last byte.
+/// A new handle whose driver binding lies at the end of a block and lacks its last byte.
 fn add_cut_driver(world: &mut World) -> Result<Handle, Fail> {
     let mut bytes = binding_bytes(world.alloc(), 16, u32::MAX, 9)?;
     let _ = bytes.pop();
@@ -48,9 +48,9 @@ fn add_cut_driver(world: &mut World) -> Result<Handle, Fail> {
     Ok(world.install(None, name, at.saturating_add(16), Handle::firmware())?)
 }
 
-/// A world with a disk, handle 3, and its partition, 7; with the drivers 4 and 5 of Version 0x10 and 6 of
-/// the greatest one; with 8, of whose driver binding 47 bytes can be read; and with an image, 9. The
-/// drivers 4 and 6 are of image 9, 5 is of 8, and 2, the bus driver, is of 1.
+/// A world with a disk, handle 3, and its partition, 7; with the drivers 4 and 5 of Version 0x10, and 6 of
+/// the greatest Version; with 8, of whose driver binding only 47 bytes can be read; and with an image, 9.
+/// The ImageHandle of drivers 4 and 6 is 9, that of driver 5 is 8, and that of 2, the bus driver, is 1.
 fn with_drivers(rt: &impl AllocGlobal) -> Result<World, Fail> {
     let mut world = World::new(rt.alloc(), Board::empty(rt.alloc()), Vec::new(rt.alloc()))?;
     add_drivers(&mut world)?;
@@ -86,9 +86,9 @@ const ROWS: [Row; 12] = [
     (&[], &[1], &[2, 6, 4, 5]),
     // so does a handle whose binding can't be read
     (&[], &[8], &[5, 6, 4, 2]),
-    // others mean nothing
+    // other handles mean nothing
     (&[], &[3, 0, 77], &[6, 4, 5, 2]),
-    // the context comes before the platform list, and a driver of both is there once
+    // the context comes before the platform list, and a driver that is in both is listed once
     (&[2], &[5], &[2, 5, 6, 4]),
     (&[4], &[4, 5], &[4, 5, 6, 2]),
     (&[6], &[9, 2], &[6, 4, 2, 5]),
@@ -135,7 +135,7 @@ type MarkedRow = (
 const MARKED_ROWS: [MarkedRow; 6] = [
     (&[6], &[], &[], &[4, 5, 2]),
     (&[4, 2, 6, 5], &[], &[], &[]),
-    // those that stand for an image
+    // the handle of an image means only those of its drivers that are not marked
     (&[4], &[], &[9], &[6, 5, 2]),
     (&[5, 6], &[5], &[6, 2], &[2, 4]),
     (&[5], &[4, 5], &[], &[4, 6, 2]),
@@ -228,7 +228,7 @@ const BUS_ROWS: [BusRow; 7] = [
     // an image means its drivers
     (&[], &[], &[8], &[5, 6, 7, 2]),
     (&[], &[], &[6], &[6, 7, 5, 2]),
-    // an image that has gone means nothing
+    // a handle that is not live means nothing
     (&[], &[], &[77, 5], &[5, 7, 6, 2]),
     // the bus list comes after the context and the platform list
     (&[], &[6], &[5], &[6, 5, 7, 2]),
@@ -236,7 +236,7 @@ const BUS_ROWS: [BusRow; 7] = [
     (&[6], &[2], &[8], &[6, 2, 5, 7]),
 ];
 
-/// The bus list is that of the child alone, and the order for the root bridge has none.
+/// Only the child has the bus list, and the order for the root bridge uses none.
 #[test]
 fn drivers_of_a_child(rt: HostRuntime) -> Result<(), Fail> {
     let mut world = with_child(&rt)?;
@@ -298,16 +298,16 @@ fn open(
 type StopRow = (u64, u64, u64, Option<&'static [u64]>);
 
 const STOP_ROWS: [StopRow; 10] = [
-    // by the protocols of the disk in order of installation: PCI I/O, then its device path
+    // in the order in which the disk's protocols were installed: PCI I/O, then the device path
     (3, 0, 0, Some(&[5, 4])),
     (3, 4, 0, Some(&[4])),
     (3, 6, 0, Some(&[])),
-    // the partition is a child of driver 4 alone
+    // the partition is a child of driver 4 only
     (3, 0, 7, Some(&[4])),
     (3, 4, 7, Some(&[4])),
     (3, 5, 7, None),
     (3, 0, 9, None),
-    // with no driver the child is not looked at
+    // if no driver remains, the child is not looked at
     (3, 6, 7, Some(&[])),
     (7, 0, 9, Some(&[])),
     (9, 0, 0, Some(&[])),

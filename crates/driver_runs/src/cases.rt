@@ -3,11 +3,11 @@ use std::alloc::Global;
 
 /// A case of the file: its name and its lines.
 ///
-/// A line `driver IMAGE PART ..` names an image file, and the listings of its code: `PART` is
-/// `drivers/PART.asm`, and each follows the one before. A line `rom-driver ROM PART .. + PART ..`
-/// names the file of an option ROM with such images, with a `+` between two of them. A line
-/// `board LINE` is a line of the board. All other lines are the report that is expected. The script
-/// is the lines of the board, and then what follows `> ` in the report.
+/// A line `driver IMAGE PART ..` names an image file and the listings of its code: `PART` is
+/// `drivers/PART.asm`, and each part follows the part before.
+/// A line `rom-driver ROM PART .. + PART ..` names the file of an option ROM with such images, with
+/// a `+` between two of them. A line `board LINE` is a line of the board. All other lines are the
+/// expected report. The script is the lines of the board, and then what follows `> ` in the report.
 #[derive(Drop)]
 pub struct Case<'a> {
     pub name: &'a str,
@@ -49,7 +49,8 @@ impl Case<'_> {
         Ok(script)
     }
 
-    /// Adds what follows these words in each line that begins with them to a text, as lines.
+    /// Takes each line that begins with these words, and adds what follows them to a text, as a
+    /// line.
     ///
     /// # Errors
     ///
@@ -64,7 +65,7 @@ impl Case<'_> {
         Ok(())
     }
 
-    /// The report that is expected.
+    /// The expected report.
     ///
     /// # Errors
     ///
@@ -81,7 +82,7 @@ impl Case<'_> {
     }
 }
 
-/// Whether a line names files or is a line of the board, so that it is no line of the report.
+/// Whether a line names files or is a line of the board, and so is not a line of the report.
 fn is_given(line: &str) -> bool {
     line.starts_with("driver ") || line.starts_with("rom-driver ") || line.starts_with("board ")
 }

@@ -18,7 +18,7 @@ pub fn first_difference(text: &str, expected: &str) -> Option<u64>
     }
 }
 
-/// The number, from 1, of the first line of `expected` that is not that line of `text`.
+/// The number, from 1, of the first line of `expected` that differs from the same line of `text`.
 fn first_other_line(text: &str, expected: &str) -> u64 {
     let mut lines = text.split('\n');
     let mut number: u64 = 1;

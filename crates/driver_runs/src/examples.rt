@@ -13,7 +13,8 @@ use std::rt::Files;
 /// The script that makes the files of the examples.
 const COMMANDS: &str = "examples/make";
 
-/// Does the commands of `examples/make`, and prints whether each writes the file that is there.
+/// Does the commands of `examples/make`, and prints for each whether it writes exactly the file that is
+/// there.
 ///
 /// # Errors
 ///
@@ -39,7 +40,7 @@ where
     Ok(())
 }
 
-/// The command of a line: what follows `./torgwezh`, and the file into which it is written.
+/// The command of a line: what follows `./torgwezh`, and the file to which its output goes.
 fn command_of(line: &str) -> Option<(&str, &str)> {
     line.strip_prefix("./torgwezh")?.split_once(" > ")
 }

@@ -1,13 +1,13 @@
-//! Runs scripts over drivers that it assembles, and compares each report with the one that is
-//! expected.
+//! Runs scripts over drivers that it assembles, and compares each report with the expected one.
 //!
 //! `cases.txt`, in the folder in which the program is started, has the cases. `cases` reads it,
 //! `drivers` makes the image files of a case, and `replay` runs its script over them. The program
 //! prints a line for each case, and then how many of them went as expected.
 //!
-//! The folder `examples` has the examples of the repository. `examples` does the commands of the
-//! script `examples/make`, by which they were made, and compares what each writes with the file that
-//! is there. The program prints a line for each of these files, and last how many are as expected.
+//! The folder `examples` has the examples of the repository. The module `examples` does the commands
+//! of the script `examples/make`, by which they were made, and compares what each writes with the
+//! file that is there. The program prints a line for each of these files, and at the end how many
+//! are as expected.
 #![tactic(auto)]
 
 mod cases;
@@ -47,7 +47,7 @@ fn run_cases<R: Files + AllocGlobal + Print>(rt: &R) -> Result<()> {
     Ok(())
 }
 
-/// Runs a case and prints how it went, and says whether that was as expected.
+/// Runs a case, prints how it went, and says whether that was as expected.
 fn runs_as_expected<R: Files + AllocGlobal + Print>(rt: &R, case: &Case) -> Result<bool> {
     let name = case.name;
     let mut shelf = ImageShelf::of(rt, case).context(format_args!("the drivers of {name}"))?;

@@ -24,8 +24,8 @@ pub fn report_of<F: Shelf>(alloc: Global, script: &[u8], shelf: &mut F) -> Resul
     replay(alloc, &script, shelf)
 }
 
-/// The notes of the board of a script, and the texts of its commands, which are done on a new machine
-/// with that board one after the other.
+/// The notes on the board of a script, and then the texts of its commands. The commands are done one
+/// after the other on a new machine with that board.
 fn replay<F: Shelf>(alloc: Global, script: &Script, shelf: &mut F) -> Result<String>
     requires budgets { list_all has_legal_budgets script.now.commands ≡ true }
 {

@@ -158,7 +158,7 @@ module _ (s : Settings) (b : Option (Level State)) (scope : Scope) (controller :
   unfolding bus_stopped
   stops_all children i w le = rw (drop_all i children le) refl
 
--- ---- Start, by what came before option ROMs
+-- ---- Start, by what came before the option ROMs
 
 module _ (b : Option (Level State)) (scope : Scope) (controller path : ℕ) (w v : State) where
   pub started_ok : (result : Result (List NewChild) Outcome) (children : List NewChild) (u : State)

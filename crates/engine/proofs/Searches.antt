@@ -1,4 +1,4 @@
--- How a search goes on by a driver that is asked, and the connection of children by a child.
+-- How a search goes on after a driver is asked, and how the connection of children goes on after a child.
 use Rattle.std.proofs.Common.{◌≡◌, ℕ, ◌+◌, ◌<◌, ◌≤◌, true, false, List, [], ◌∷◌, length, drop, refl, ap, ◌∙◌}
 use Rattle.std.specs.Prelude.{Some, None, slice_index_or}
 use Rattle.std.proofs.lemmas.List.{drop_all}

@@ -1,4 +1,4 @@
--- How a disconnect goes on by a driver's turn.
+-- How a disconnect goes on after a driver's turn.
 use Rattle.std.proofs.Common.{◌≡◌, ℕ, ◌+◌, ◌-◌, ◌<◌, ◌≤◌, Bool, true, false, List, [], ◌∷◌, length, drop, refl, sym, ap, ◌∙◌}
 use Rattle.std.specs.Prelude.{Option, Some, None, slice_index_or, if◌then◌else◌}
 use Rattle.std.proofs.lemmas.List.{drop_all}

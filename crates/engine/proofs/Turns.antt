@@ -1,4 +1,4 @@
--- How a turn goes by its step, and what levels are below a level.
+-- What a turn does by its step, and which levels are below a level.
 use Rattle.std.proofs.Common.{◌≡◌, ℕ, ◌-◌, ◌<◌, zero, suc, false, nat_eq, nat_lt, refl, sym, ap, ◌∙◌, arith}
 use Rattle.std.specs.Prelude.{Option, Some, Result, Ok, Err, IfOk}
 use Rattle.fw_types.specs.declared.event.Cause.TheVariants.{Nest}
@@ -59,7 +59,7 @@ pub thunk_is : (s : Settings) (room : ℕ) (scope : Scope) (entry : ℕ) (cpu : 
     → thunk_called plain (level_below s room) scope entry cpu w ≡ thunk_entered plain (Some (level_at s (room - 1))) scope entry cpu paid
 thunk_is s room scope entry cpu w paid some enough paying = rw (enough, next_level s room some, paying) refl
 
--- at the last level a thunk is paid, and traps
+-- at the last level a thunk is paid for, and then it traps
 pub thunk_nests : (s : Settings) (room : ℕ) (scope : Scope) (entry : ℕ) (cpu : Cpu) (w paid : State) → room ≡ 0 → nat_lt w.hard.units CALL_PRICE ≡ false
     → paid ≡ changed (pays CALL_PRICE) w → thunk_called plain (level_below s room) scope entry cpu w ≡ traps Nest cpu paid
 unfolding below

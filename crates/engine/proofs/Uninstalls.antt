@@ -1,4 +1,4 @@
--- How several uninstalls go on by one.
+-- How several uninstalls go on after one of them.
 use Rattle.std.proofs.Common.{◌≡◌, ℕ, ◌+◌, ◌<◌, ◌≤◌, Bool, true, false, not, nat_eq, List, ◌∷◌, length, drop, refl, ap, ◌∙◌}
 use Rattle.std.specs.Prelude.{Option, slice_index_or}
 use Rattle.std.proofs.lemmas.List.{drop_all}

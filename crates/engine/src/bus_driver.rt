@@ -21,9 +21,10 @@ use fw_world::World;
 use world_model::laws::{levels_are_free, marks_suffice};
 
 /// Start of the bus driver: it opens root bridge I/O of the controller, makes a child for each
-/// function that the path chooses, and loads the drivers that their option ROMs bring. The answer is
-/// the first of these that applies: what Supported answers if that is no success; OUT_OF_RESOURCES
-/// if a limit is met; `Budget` if too few units are left for a child; and otherwise SUCCESS.
+/// function that the path chooses, and loads the drivers that the option ROMs of these functions
+/// bring. The answer is the first of these that applies: what Supported answers, if that is not a
+/// success; OUT_OF_RESOURCES if a limit is met; `Budget` if too few units are left for a child; and
+/// otherwise SUCCESS.
 ///
 /// # Errors
 ///
@@ -109,8 +110,9 @@ fn process_roms(
     Ok(())
 }
 
-/// Loads the drivers of the option ROM of a new child, if it is live, and if its function has one
-/// that was not processed. Those that stay loaded become the bus list of the function.
+/// Loads the drivers in the option ROM of a new child, if the child is live and its function has an
+/// option ROM that was not processed. The images that stay loaded become the bus list of the
+/// function.
 #[cycle(engine)]
 fn process_rom(
     world: &mut World,
@@ -166,8 +168,8 @@ fn load_drivers(
     Ok(images)
 }
 
-/// Stop of the bus driver, which takes the children of a root bridge away again, in turn. The answer
-/// is that of the first child that ends it (`take_child`), and otherwise SUCCESS.
+/// Stop of the bus driver: it removes the children of a root bridge, in turn. The answer is that of
+/// the first child that ends it (`take_child`), and otherwise SUCCESS.
 ///
 /// # Errors
 ///
@@ -201,10 +203,10 @@ pub fn stop_bus(
     Ok(Outcome::Value(Status::SUCCESS))
 }
 
-/// Takes a child of the bus away: its PCI I/O, its device path and its bus specific driver override
-/// are uninstalled, and then their blocks are freed. The answer is how Stop ends with it, if it
-/// does: by `Budget` if too few units are left for it; with DEVICE_ERROR if the handle is no child
-/// below this root bridge, or at the first interface that is not uninstalled.
+/// Removes a child of the bus: its PCI I/O, its device path and its bus specific driver override are
+/// uninstalled, and then their blocks are freed. If this ends Stop, the answer is how: by `Budget`
+/// if too few units are left for the child; with DEVICE_ERROR if the handle is not a child below
+/// this root bridge, or at the first interface that is not uninstalled.
 #[cycle(engine)]
 fn take_child(
     world: &mut World,

@@ -16,10 +16,10 @@ use fw_world::World;
 use world_model::laws::{levels_are_free, marks_suffice};
 
 /// Connects drivers to a controller, at the level with this room. The handles of `context` are
-/// asked first. The answer is the first of these that applies: ABORTED if fewer units are left than
-/// the price, and then no event is made; OUT_OF_RESOURCES at the last level; INVALID_PARAMETER if
-/// the controller is not live; SUCCESS if a Start succeeded or the path is an End node; and
-/// otherwise NOT_FOUND.
+/// asked first. The answer is the first of these that applies: ABORTED, with no event, if fewer
+/// units are left than the price; OUT_OF_RESOURCES at the last level; INVALID_PARAMETER if the
+/// controller is not live; SUCCESS if a Start succeeded or the path is an End node; and otherwise
+/// NOT_FOUND.
 ///
 /// # Errors
 ///
@@ -58,9 +58,9 @@ pub fn connect(
     Ok(status)
 }
 
-/// What ConnectController does after it is paid, inside its event. At the last level, and if the
-/// controller is not live, nothing is done. Otherwise drivers are searched, and then the children
-/// are connected.
+/// What ConnectController does after it is paid for, inside its event. At the last level, and if
+/// the controller is not live, nothing is done. Otherwise drivers are searched and started, and
+/// then the children are connected.
 #[cycle(engine)]
 #[tactic(auto, unfolding(driver_model::specs::Connect::connected, driver_model::specs::Levels::below))]
 fn connect_in_event(

@@ -16,11 +16,11 @@ use fw_types::{CALL_PRICE, EventKind, Handle, OutOfMemory, Outcome, Status};
 use fw_world::World;
 
 /// Disconnects drivers from a controller, at the level with this room. The answer is the first of
-/// these that applies: ABORTED if fewer units are left than the price, and then no event is made;
-/// OUT_OF_RESOURCES at the last level; INVALID_PARAMETER if the controller is not live, the driver
-/// that is given has no binding, or the child that is given is not live; NOT_FOUND if none of the
-/// drivers has that child; SUCCESS if no driver failed, and none that was stopped has a record on
-/// the controller then; and otherwise DEVICE_ERROR.
+/// these that applies: ABORTED, with no event, if fewer units are left than the price;
+/// OUT_OF_RESOURCES at the last level; INVALID_PARAMETER if the controller is not live, the given
+/// driver has no binding, or the given child is not live; NOT_FOUND if none of the drivers has
+/// that child; SUCCESS if no driver failed, and no driver that was stopped has a record on the
+/// controller after it; and otherwise DEVICE_ERROR.
 ///
 /// # Errors
 ///
@@ -57,9 +57,9 @@ pub fn disconnect(
     Ok(status)
 }
 
-/// What DisconnectController does after it is paid, inside its event. At the last level, for a
-/// handle that means nothing, and if none of the drivers has the child that is given, nothing is
-/// done. Otherwise the drivers take their turns.
+/// What DisconnectController does after it is paid for, inside its event. Nothing is done at the
+/// last level, for a handle that means nothing, or if none of the drivers has the given child.
+/// Otherwise the drivers take their turns.
 #[cycle(engine)]
 #[tactic(auto, unfolding(driver_model::specs::Disconnect::disconnected, driver_model::specs::Levels::below))]
 fn disconnect_in_event(
@@ -92,8 +92,8 @@ fn disconnect_in_event(
     stop_drivers(world, settings, room - 1, scope, d, controller, &agents)
 }
 
-/// Lets each of these drivers take its turn. The answer is SUCCESS if none failed, and none that
-/// was stopped has a record on the controller then, and otherwise DEVICE_ERROR.
+/// Lets each of these drivers take its turn. The answer is SUCCESS if no driver failed and no
+/// driver that was stopped has a record on the controller after it, and otherwise DEVICE_ERROR.
 #[cycle(engine)]
 fn stop_drivers(
     world: &mut World,

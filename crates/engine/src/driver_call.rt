@@ -21,9 +21,9 @@ use fw_world::World;
 use world_model::laws::{levels_are_free, marks_suffice, stacks_stand};
 
 /// Makes a driver call at the level with this room, with the children that a Stop is given, and
-/// answers how it ended. With less than its price to spend it traps with `Budget`, and no event is
-/// made. While it lasts no more than the call budget is left to it. If it does not commit, the soft
-/// part is as before, whatever it and all that it called did.
+/// answers how it ended. If it may spend fewer units than its price, it traps with `Budget`, and no
+/// event is made. While it lasts, no more than the call budget is left to it. If it does not
+/// commit, the soft part is as before, whatever the call and everything that it called did.
 ///
 /// # Errors
 ///
@@ -115,7 +115,7 @@ fn enter(
     }
 }
 
-/// Runs code at the level with this room, on a stack of its own, which is there while it runs.
+/// Runs code at the level with this room, on a stack of its own that exists while the code runs.
 #[cycle(engine)]
 #[tactic(auto, unfolding(driver_model::specs::DriverCall::ran_on_stack))]
 pub fn run_on_stack(

@@ -21,7 +21,7 @@ use fw_types::{Cause, OutOfMemory};
 use fw_world::World;
 use guest_memory::address_map::EXIT;
 
-/// Takes a step over the memory of the world.
+/// Takes a step on the memory of the world.
 #[inline]
 fn step_over(cpu: &mut Cpu, world: &mut World) -> Result<StepOut, OutOfMemory>
     ensures out { IfOk result (λ out. (stepped cpu.old world.old.now.soft.memory).out ≡ out) }
@@ -33,7 +33,7 @@ fn step_over(cpu: &mut Cpu, world: &mut World) -> Result<StepOut, OutOfMemory>
     step(cpu, world)
 }
 
-/// Takes a step over the memory of the world, which leaves all stacks.
+/// Takes a step on the memory of the world. The step adds no stack and removes none.
 #[inline]
 fn take_step(cpu: &mut Cpu, world: &mut World) -> Result<StepOut, OutOfMemory>
     ensures out { IfOk result (λ out. (stepped cpu.old world.old.now.soft.memory).out ≡ out) }
@@ -48,7 +48,7 @@ fn take_step(cpu: &mut Cpu, world: &mut World) -> Result<StepOut, OutOfMemory>
     Ok(out)
 }
 
-/// Does what the instruction at `at` asks for. The answer is how the run ends with it, if it does.
+/// Does what the instruction at `at` asks for. If that ends the run, the answer is how it ends.
 #[inline]
 #[cycle(engine)]
 fn act(
@@ -82,8 +82,8 @@ fn act(
 }
 
 /// Takes a turn of a run: at the exit address the run is done; with no unit left it traps; and
-/// otherwise a step is taken, and what it asks for is done. The answer is how the run ends with it,
-/// if it does.
+/// otherwise a step is taken, and what it asks for is done. If that ends the run, the answer is how
+/// it ends.
 #[inline]
 #[cycle(engine)]
 #[tactic(auto, unfolding(driver_model::specs::GuestRun::turn))]
@@ -118,7 +118,7 @@ fn take_turn(
 }
 
 /// Runs code with the units that are left, and answers how the run ends (UEFI 2.8, chapter 22 'EFI
-/// Byte Code Virtual Machine'). An instruction costs one unit, also one that traps.
+/// Byte Code Virtual Machine'). Each instruction costs one unit, even one that traps.
 #[cycle(engine)]
 pub fn run_code(
     world: &mut World,

@@ -19,7 +19,7 @@ use pe_image::{PeView, check};
 use world_model::laws::{levels_are_free, marks_suffice, stacks_stand};
 
 /// Lays the image of an accepted file that is paid for, and calls its entry point at the level with
-/// this room. If that fails the soft part is as before. At a limit nothing is done.
+/// this room. If the entry point fails, the soft part is as before. At a limit nothing is done.
 #[cycle(engine)]
 fn lay_and_enter(
     world: &mut World,
@@ -55,7 +55,7 @@ fn lay_and_enter(
 }
 
 /// Pays for laying the image of an accepted file, lays it, and calls its entry point. No mark is
-/// made before it is paid.
+/// made before it is paid for.
 #[cycle(engine)]
 fn pay_and_enter(
     world: &mut World,
@@ -90,8 +90,7 @@ fn pay_and_enter(
 ///
 /// # Errors
 ///
-/// `OutOfMemory` if there is no memory for the image, or for what the entry point
-/// does.
+/// `OutOfMemory` if there is no memory for the image, or for what the entry point does.
 #[cycle(engine)]
 #[tactic(auto, unfolding(driver_model::specs::ImageLife::image_loaded))]
 pub fn load_image(

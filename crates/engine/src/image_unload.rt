@@ -17,7 +17,8 @@ use fw_world::{LoadedImage, World};
 use world_model::laws::{levels_are_free, marks_suffice};
 
 /// Calls the handler of a loaded image at the level with this room, and drops the image if the
-/// handler succeeds and the image is not in use then. A handler at 0 is none.
+/// handler succeeds and the image is not in use after it. An address of 0 means that there is no
+/// handler.
 fn call_handler(
     world: &mut World,
     settings: &Settings,
@@ -56,10 +57,10 @@ fn call_handler(
 ///   handler (UEFI 2.8, 9.1: EFI_LOADED_IMAGE_PROTOCOL.Unload()).
 /// - What the handler answers if that is an error, or ABORTED if it traps. It is called at the level
 ///   with this room.
-/// - ACCESS_DENIED if the image is in use then.
+/// - ACCESS_DENIED if the image is in use after that.
 /// - SUCCESS. The image is gone with all that belongs to it.
 ///
-/// If the status is not SUCCESS the soft part is as before. No mark is open.
+/// If the status is not SUCCESS, the soft part is as before. No mark is open.
 ///
 /// # Errors
 ///

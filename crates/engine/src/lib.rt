@@ -1,11 +1,11 @@
 //! The engine that runs drivers over the world: ConnectController and DisconnectController, the
-//! driver calls that they make, the runs of EBC code inside those, and the services by which that
-//! code enters the driver model again, 32 levels deep (UEFI 2.8, 7.3, 11.1
-//! and chapter 22). It also loads images, whose entry points it calls, and unloads them (UEFI 2.8,
-//! 7.4). One driver is its own: the PCI bus driver, `bus_driver` (UEFI 2.8, 14.3.2).
+//! driver calls that they make, the runs of EBC code inside those, and the services through which
+//! that code enters the driver model again, up to 32 levels deep (UEFI 2.8, 7.3, 11.1 and chapter
+//! 22). It also loads images, whose entry points it calls, and unloads them (UEFI 2.8, 7.4). One
+//! driver is its own: the PCI bus driver, `bus_driver` (UEFI 2.8, 14.3.2).
 //!
 //! What each function does is a definition of `driver_model`, which its contract cites. The
-//! functions call each other in one cycle, which goes down a level with each driver call, each
+//! functions call each other in one cycle. The cycle goes down a level with each driver call, each
 //! thunk that code calls, and each child that is connected:
 //!
 //! ```text
@@ -17,12 +17,13 @@
 //!        +--------------------------------------------------+-------------------------+
 //! ```
 //!
-//! A function takes the room of the level at which it works: how many levels are below it. Beside
-//! what it does, each says the same of the world. It asks that no level below has a stack, and that
-//! few marks are open (`world_model::laws`, `levels_are_free` and `marks_suffice`). It leaves the
-//! open marks and the stacks as they were, units never rise, and no event goes.
+//! A function takes the room of the level at which it works: how many levels are below it. In
+//! addition to what a function does, its contract says the same about the world for each of them.
+//! It requires that no level below has a stack, and that few marks are open (`world_model::laws`,
+//! `levels_are_free` and `marks_suffice`). It leaves the open marks and the stacks as they were,
+//! units never rise, and no event is lost.
 //!
-//! What calls no driver is in `bind_parts`.
+//! The parts that call no driver are in `bind_parts`.
 #![tactic(auto)]
 
 mod bus_driver;

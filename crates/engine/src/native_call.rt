@@ -25,9 +25,9 @@ use service_model::{Reentry, Served};
 use service_thunks::Service;
 use world_model::laws::marks_suffice;
 
-/// Makes a native call by the code at `at` (UEFI 2.8, chapter 22, 'CALL'). The answer is how the
-/// run ends with it, if it does: for `BadCall` if no function of the firmware is at the target, or
-/// with what a service or a thunk ends it.
+/// Makes a native call by the code at `at` (UEFI 2.8, chapter 22, 'CALL'). If the call ends the
+/// run, the answer is how: it traps with `BadCall` if there is neither a function of the firmware
+/// nor a thunk at the target, or it ends as a service or a thunk ends it.
 #[cycle(engine)]
 pub fn call_native(
     world: &mut World,
@@ -61,8 +61,8 @@ pub fn call_native(
     }
 }
 
-/// Calls a service, for the image that holds the instruction; without one the code traps with
-/// `Fetch`.
+/// Calls a service, for the image that holds the instruction. If no image holds it, the code traps
+/// with `Fetch`.
 #[cycle(engine)]
 fn call_service(
     world: &mut World,
@@ -94,7 +94,8 @@ fn call_service(
     Ok(take_answer(answer, cpu))
 }
 
-/// Does what a service goes on with, if it does, and answers what the service answers in the end.
+/// Does what a service goes on with, if it goes on, and answers what the service answers in the
+/// end.
 #[cycle(engine)]
 fn go_on(
     world: &mut World,

@@ -1,4 +1,4 @@
-//! OpenProtocol of an interface that a driver manages, with EXCLUSIVE (UEFI 2.8, 7.3).
+//! OpenProtocol with EXCLUSIVE, of an interface that a driver manages (UEFI 2.8, 7.3).
 ghost use Rattle.std.specs.Prelude.{◌≡◌, ◌≤◌, IfOk, OnOk, length, true};
 ghost use Rattle.fw_types.specs.declared.limits.TheConstants.{MOST_LEVELS as most_levels};
 ghost use Rattle.world_model.specs.Levels.{has_marks, is_free};
@@ -15,9 +15,9 @@ use fw_types::OutOfMemory;
 use fw_world::World;
 use service_model::{Removal, Served};
 
-/// Disconnects the driver that is in the way of an open, and looks at the open again. The answer is
-/// OUT_OF_RESOURCES or ABORTED if the disconnect answers that, and otherwise what the second look
-/// answers.
+/// Disconnects the driver that is in the way of an open, and looks at the open again. If the
+/// disconnect answers OUT_OF_RESOURCES or ABORTED, that is the answer. Otherwise the answer is that
+/// of the second look.
 ///
 /// # Errors
 ///

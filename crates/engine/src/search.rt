@@ -1,5 +1,5 @@
-//! The searches of ConnectController (UEFI 2.8, 7.3): drivers are asked by Supported, and the one
-//! that is found is started.
+//! The searches of ConnectController (UEFI 2.8, 7.3): drivers are asked by Supported, and the
+//! driver that is found is started.
 ghost use Rattle.std.specs.Prelude.{◌≡◌, ◌<◌, ◌≤◌, ◌+◌, ◌||◌, [], IfOk, OnOk, false, length, true};
 ghost use Rattle.fw_types.specs.declared.limits.TheConstants.{MOST_LEVELS as most_levels};
 ghost use Rattle.world_model.specs.Levels.{has_marks, is_free};
@@ -18,8 +18,8 @@ use fw_types::{Handle, OutOfMemory};
 use fw_world::World;
 
 /// Searches drivers for a controller and starts them, until a search finds none or the controller
-/// is not live. The answer is whether a Start succeeded. Each search goes down a new list, without
-/// the drivers that were started before, whatever their Start came to.
+/// is no longer live. The answer is whether a Start succeeded. Each search goes down a new list,
+/// without the drivers that were started before, whatever their Start answered.
 #[cycle(engine)]
 pub fn search(
     world: &mut World,
@@ -63,15 +63,15 @@ pub fn search(
     }
 }
 
-/// Whether one of two is true.
+/// Whether at least one of the two is true.
 fn either(one: bool, other: bool) -> bool
     ensures { result ≡ one || other }
 {
     one || other
 }
 
-/// Makes the order and asks the drivers in it that are not marked. The answer is the first that
-/// supports the controller.
+/// Makes the order, and asks the drivers in it that are not marked. The answer is the first driver
+/// that supports the controller.
 #[cycle(engine)]
 fn find(
     world: &mut World,

@@ -20,8 +20,9 @@ use driver_model::{BindingBlock, Disconnection, Scope, Settings, StopTurn};
 use fw_types::{Handle, OutOfMemory};
 use fw_world::World;
 
-/// Takes a driver's turn. It is passed over if the controller is not live, if it does not manage
-/// the controller any more, or if a child is given that is not its. It fails if it has no binding.
+/// Takes a driver's turn. The driver is passed over if the controller is not live, if the driver no
+/// longer manages the controller, or if a child is given that is not one of the driver's. It fails
+/// if it has no binding.
 #[cycle(engine)]
 #[tactic(auto, unfolding(driver_model::specs::Disconnect::stop_turn))]
 pub fn take_stop_turn(
@@ -63,7 +64,7 @@ pub fn take_stop_turn(
     )
 }
 
-/// Stops the children of a driver that are meant; and then the driver itself, if no child of it is
+/// Stops the children of a driver that are meant, and then the driver itself, if it has no child
 /// left and the controller is live.
 #[cycle(engine)]
 fn stop_driver(
@@ -101,8 +102,8 @@ fn stop_driver(
     stop_itself(world, settings, room, scope, controller, agent)
 }
 
-/// Calls Stop with children, if there are any, and closes their records after it succeeds. The
-/// answer is whether the driver did not fail.
+/// Calls Stop with children, if there are any, and closes their records if it succeeds. The answer
+/// is whether the driver did not fail.
 #[cycle(engine)]
 fn stop_children(
     world: &mut World,
@@ -139,8 +140,8 @@ fn stop_children(
     Ok(true)
 }
 
-/// Calls Stop with no children, by the binding that the driver has now, and closes all its records
-/// on the controller after it succeeds.
+/// Calls Stop with no children, by the binding that the driver has now, and closes all the driver's
+/// records on the controller if Stop succeeds.
 #[cycle(engine)]
 fn stop_itself(
     world: &mut World,

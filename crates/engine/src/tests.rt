@@ -12,7 +12,7 @@ use std::alloc::Global;
 use std::test::Fail;
 use world_model::laws::rest_is_free;
 
-/// A world at its opening, with so many units.
+/// A world in its opening state, with `units` units.
 #[tactic(auto, unfolding(world_model::specs::Levels::has_marks))]
 fn opening_world(alloc: Global, units: u32) -> Result<World, Fail>
     ensures free { IfOk result (λ world.
@@ -25,7 +25,7 @@ fn opening_world(alloc: Global, units: u32) -> Result<World, Fail>
     Ok(world)
 }
 
-/// No platform lists, and the budget of a call as it is at first.
+/// Settings with no platform lists and with the first budget of a call.
 fn first_settings(alloc: Global) -> Settings {
     Settings {
         platform: Rows::of(Vec::new(alloc)),
@@ -33,8 +33,8 @@ fn first_settings(alloc: Global) -> Settings {
     }
 }
 
-/// The number of an event, that of the event inside which it began, what was called, the driver,
-/// the controller, and how it ended.
+/// The number of an event, the number of the event inside which it began, what was called, the
+/// driver, the controller, and how it ended.
 type EventRow = (u64, u64, EventKind, u64, u64, Status);
 
 fn row_of(event: &Event) -> Option<EventRow> {
@@ -60,7 +60,7 @@ fn rows_of(alloc: Global, world: &mut World) -> Result<Vec<EventRow>, Fail> {
 /// and the events.
 type ConnectRow = (u64, bool, u32, Status, u64, &'static [EventRow]);
 
-/// The bus driver, handle 2, is asked, and supports no controller that is no root bridge.
+/// The bus driver, handle 2, is asked, and supports only root bridges.
 const CONNECTS: [ConnectRow; 5] = [
     (
         1,
@@ -100,7 +100,7 @@ const CONNECTS: [ConnectRow; 5] = [
         936,
         &[(1, 0, EventKind::Connect, 0, 9, Status::INVALID_PARAMETER)],
     ),
-    // with fewer units than the price nothing is begun
+    // with fewer units than the price, nothing is begun
     (1, false, 63, Status::ABORTED, 63, &[]),
 ];
 
@@ -128,7 +128,7 @@ fn connects_on_an_empty_board(rt: HostRuntime) -> Result<(), Fail> {
 /// A driver, the status and its event.
 const DISCONNECTS: [(u64, Status); 2] = [
     (0, Status::SUCCESS),
-    // the firmware is no driver
+    // the firmware is not a driver
     (1, Status::INVALID_PARAMETER),
 ];
 

@@ -1,5 +1,5 @@
-//! Thunks that a driver's code calls. A thunk is no driver call: its code runs at the next level,
-//! on a stack of its own and in the caller's event.
+//! Thunks that a driver's code calls. A thunk is not a driver call: its code runs at the next
+//! level, on a stack of its own and in the caller's event.
 ghost use Rattle.std.specs.Prelude.{◌≡◌, ◌<◌, ◌≤◌, ◌+◌, IfOk, OnOk, Some, length, true};
 ghost use Rattle.fw_types.specs.declared.limits.TheConstants.{MOST_LEVELS as most_levels};
 ghost use Rattle.world_model.specs.Levels.{has_marks, is_free};
@@ -17,9 +17,9 @@ use fw_types::{CALL_PRICE, Cause, OutOfMemory};
 use fw_world::World;
 use world_model::laws::{levels_are_free, marks_suffice};
 
-/// Calls the code of a thunk. The answer is how the caller's run ends with it, if it does: for
-/// `Budget` if fewer units are left than its price; for `Nest`, after the price is paid, at the
-/// last level; or as that code ends the driver call.
+/// Calls the code of a thunk. If this ends the caller's run, the answer is how: it traps with
+/// `Budget` if fewer units are left than the price, or with `Nest` at the last level, after the
+/// price is paid; or it ends as that code ends the driver call.
 #[cycle(engine)]
 pub fn call_thunk(
     world: &mut World,

@@ -26,12 +26,14 @@ use fw_world::World;
 use service_model::HandleInterface;
 use world_model::laws::{levels_are_free, marks_suffice};
 
-/// Uninstalls an interface. The answer is the first of these that applies: NOT_FOUND if the handle
-/// does not have the interface, and for the firmware if another owns it; ACCESS_DENIED if a driver
-/// asks and the firmware owns it; OUT_OF_RESOURCES or
-/// ABORTED if the disconnect of the driver that manages the handle by it answers that; NOT_FOUND if
-/// the handle does not have the interface after it; ACCESS_DENIED if it is still open, and then the
-/// handle is connected again; and otherwise SUCCESS.
+/// Uninstalls an interface. The answer is the first of these that applies:
+/// - NOT_FOUND if the handle does not have the interface, or if the firmware asks and another owns it.
+/// - ACCESS_DENIED if a driver asks and the firmware owns it.
+/// - OUT_OF_RESOURCES or ABORTED if the disconnect of the driver that manages the handle through it answers
+///   that.
+/// - NOT_FOUND if the handle no longer has the interface after that disconnect.
+/// - ACCESS_DENIED if the interface is still open. The handle is then connected again.
+/// - SUCCESS otherwise.
 ///
 /// # Errors
 ///
@@ -69,7 +71,7 @@ pub fn uninstall(
     uninstall_released(world, settings, room, scope, remover, i, status)
 }
 
-/// Disconnects the driver that manages the handle by an interface, if one does.
+/// Disconnects the driver that manages the handle through an interface, if there is one.
 #[cycle(engine)]
 fn release(
     world: &mut World,
@@ -101,7 +103,7 @@ fn release(
     disconnect(world, settings, room, scope, &d)
 }
 
-/// Uninstalls an interface if it is still there, after the disconnect of its driver answered a status.
+/// Uninstalls an interface, if the handle still has it, after the disconnect of its driver answered a status.
 #[cycle(engine)]
 #[tactic(auto, unfolding(driver_model::specs::UninstallWithReconnection::after_release))]
 fn uninstall_released(
@@ -136,7 +138,7 @@ fn uninstall_released(
     take_away(world, settings, room, scope, handle, i)
 }
 
-/// Removes an interface on which no record is left. If one is left, the handle is connected again.
+/// Removes an interface if no record of it is left. If one is left, the handle is connected again.
 #[cycle(engine)]
 #[tactic(auto, unfolding(driver_model::specs::UninstallWithReconnection::taken_away))]
 fn take_away(
@@ -208,8 +210,8 @@ pub fn uninstall_each(
 }
 
 /// Uninstalls all interfaces of a list, for a driver, and answers SUCCESS; or leaves the soft part as it was,
-/// and answers INVALID_PARAMETER. A list that is refused for certain before a driver is called is refused at
-/// once, so nothing goes and comes back.
+/// and answers INVALID_PARAMETER. A list that comes to a refused pair before any driver would be called is
+/// refused at once, so that no interface is removed and put back.
 ///
 /// # Errors
 ///

@@ -1,5 +1,5 @@
--- Placing an image in the world (UEFI 2.8, 7.4: LoadImage): its file is checked, its
--- laying is paid, and it is added, unless a limit is met.
+-- Placing an image in the world (UEFI 2.8, 7.4: LoadImage): its file is checked, its laying is paid for, and it is
+-- added, unless a limit is met.
 use Rattle.std.specs.Prelude.{◌≡◌, ℕ, nat_lt, List, Option, Some, None, Result, Ok, Err, if◌then◌else◌}
 use Rattle.fw_types.specs.declared.image.PeRefusal.{PeRefusal}
 use Rattle.pe_image.specs.ImageRules.{entry_of, refusal_of, size_of, subsystem_of}
@@ -13,7 +13,7 @@ use Rattle.image_table.specs.declared.fault.PlaceFault.TheVariants.{Refused, Uni
 
 -- ---- the answer
 
--- a file whose laying is paid gets a handle for its image, which is the next one, unless a limit is met
+-- after its laying is paid for, the image of a file gets the next handle, unless a limit is met
 abbrev pub adding_answer : List ℕ → Soft → Result ℕ PlaceFault
 adding_answer file soft = if is_image_full (size_of file) soft then Err Full else Ok soft.database.next
 
@@ -31,15 +31,14 @@ place_answer file w = unless_refused (refusal_of file) file w
 
 -- ---- the state after it
 
--- the image of a file: its bytes as they are laid at the next image address
+-- the image of a file is added, its bytes laid at the next image address
 abbrev pub file_added : List ℕ → ℕ → Soft → Soft
 file_added file device soft = image_added (laid file soft.next_image) (entry_of file) (subsystem_of file) device soft
 
 abbrev pub added_unless_full : List ℕ → ℕ → State → State
 added_unless_full file device w = if is_image_full (size_of file) w.soft then w else on_soft (file_added file device) w
 
--- The price is spent, and the image is added unless a limit is met. If too few units are left nothing is
--- spent.
+-- The price is spent, and the image is added unless a limit is met. If too few units are left, nothing is spent.
 abbrev pub accepted_placed : List ℕ → ℕ → State → State
 accepted_placed file device w =
     if nat_lt w.hard.units (laying_price file) then w

@@ -14,20 +14,20 @@ use pe_image::{PeView, check, lay};
 /// The bytes of an image that one unit pays for.
 const BYTES_PER_UNIT: u64 = 64;
 
-/// Places the image of a file: checks the file, pays for laying it, lays it at the next image
-/// address, and adds it to the world, with its loaded image block as the interface of a new handle,
-/// which is the answer (UEFI 2.8, 7.4: LoadImage). Laying costs one unit for each 64 bytes of the
-/// size of the image, rounded up. `device` is the handle of the device that the file comes from, or
-/// 0. The entry point of the image is not called. Nothing is copied before the file is accepted,
-/// the price is paid and no limit is met.
+/// Places the image of a file (UEFI 2.8, 7.4: LoadImage): checks the file, pays for laying it, lays
+/// it at the next image address, and adds it to the world. The answer is a new handle, whose
+/// interface is the loaded image block. Laying costs one unit for each 64 bytes of the size of the
+/// image, rounded up. `device` is the handle of the device that the file comes from, or 0. The
+/// entry point of the image is not called. Nothing is copied before the file is accepted, the price
+/// is paid, and it is known that no limit is met.
 ///
 /// # Errors
 ///
 /// In this order: `Refused` if the file is not accepted as an EBC driver, for the first rule that
 /// it breaks; `Units` if fewer units are left than the price; `Full` if a limit of the world is
 /// met, of handles, of images or of blocks; `OutOfMemory` if there is no memory. After `Refused`
-/// and `Units` the world is as before; after `Full` the price stays spent, and all else is as
-/// before.
+/// and `Units` the world is as before. After `Full` the price stays spent, and everything else is
+/// as before.
 pub fn place(w: &mut World, file: &[u8], device: u64) -> Result<Handle, PlaceFault>
     ensures answer { Gives result (place_answer file.now w.old.now) }
     ensures now { UnlessMemory result (w.new.now ≡ placed file.now device w.old.now) }
@@ -76,9 +76,9 @@ pub fn pay(w: &mut World, view: &PeView<'_>) -> bool
     w.spend(price_of(view))
 }
 
-/// Lays an accepted file at the next image address, and adds its image to the world, with its
-/// loaded image block as the interface of a new handle, which is the answer. `device` is the handle
-/// of the device that the file comes from, or 0. The caller has paid, and no limit is met.
+/// Lays an accepted file at the next image address, and adds its image to the world. The answer is
+/// a new handle, whose interface is the loaded image block. `device` is the handle of the device
+/// that the file comes from, or 0. The caller has paid, and no limit is met.
 ///
 /// # Errors
 ///

@@ -1,4 +1,4 @@
-//! Whether an image is in use, and the sweep in which it goes (UEFI 2.8, 7.4: UnloadImage).
+//! Whether an image is in use, and the sweep that removes it (UEFI 2.8, 7.4: UnloadImage).
 ghost use Rattle.std.specs.Prelude.{◌≡◌, [], OnErr};
 ghost use Rattle.world_model.specs.Images.{drop_answer};
 ghost use Rattle.world_model.specs.ImageSweep.{image_swept, is_in_use};
@@ -7,9 +7,10 @@ ghost use Rattle.world_model.specs.World.{on_soft};
 use fw_types::{Guid, Handle, Known};
 use fw_world::{World, WorldFault};
 
-/// Whether an image is in use: one of its agents, which are its handle and the handles whose driver
-/// binding it owns, has an open record with BY_DRIVER, EXCLUSIVE or BY_CHILD_CONTROLLER, or there is
-/// such a record of an interface that the image owns (UEFI 2.8, 7.3: OpenProtocol). Takes no memory.
+/// Whether an image is in use (UEFI 2.8, 7.3: OpenProtocol). It is if one of its agents has an open
+/// record with BY_DRIVER, EXCLUSIVE or BY_CHILD_CONTROLLER, or if there is such a record of an
+/// interface that the image owns. Its agents are its handle and the handles whose driver binding it
+/// owns. Takes no memory.
 #[tactic(auto, unfolding(world_model::specs::ImageSweep::is_in_use))]
 pub fn in_use(w: &World, image: Handle) -> bool
     ensures { result ≡ is_in_use image w.now.now.soft }
@@ -20,8 +21,8 @@ pub fn in_use(w: &World, image: Handle) -> bool
 
 /// Drops an image with all that belongs to it, in one sweep (UEFI 2.8, 7.4: UnloadImage): the open
 /// records of its agents, the interfaces that it owns and its loaded image interface, the thunks that
-/// enter it, its bytes and its loaded image block. Handles whose last interface goes are gone, and
-/// with them the records that name them. The blocks that its driver allocated stay. No mark is open.
+/// enter it, its bytes and its loaded image block. A handle that loses its last interface is removed,
+/// and so are the records that name it. The blocks that its driver allocated stay. No mark is open.
 /// Takes no memory.
 ///
 /// # Errors

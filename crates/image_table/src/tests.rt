@@ -8,8 +8,8 @@ use std::alloc::Global;
 use std::process::Abort;
 use std::test::Fail;
 
-/// `MOVIqw R7, 0` and `RET`. The image that the image writer makes of it has 1,024 bytes, and its
-/// entry point is at offset 0x200.
+/// `MOVIqw R7, 0` and `RET`. The image that the image writer makes of this code has 1,024 bytes,
+/// and its entry point is at offset 0x200.
 const SMALLEST: &[u8] = b"\x77\x37\x00\x00\x04\x00";
 
 /// The offset of the size of image in the file.
@@ -43,8 +43,8 @@ fn number(answer: Result<Handle, PlaceFault>) -> Result<u64, PlaceFault> {
     }
 }
 
-/// A size of image, the units that are left, what placing answers, and the units that are left
-/// then.
+/// A size of image, the units that are left before, what placing answers, and the units that are
+/// left after it.
 #[test]
 fn a_unit_is_paid_for_each_64_bytes(rt: HostRuntime) -> Result<(), Fail> {
     let cases: [(u32, u32, Result<u64, PlaceFault>, u64); 7] = [
@@ -89,7 +89,7 @@ fn a_refused_file_changes_nothing(rt: HostRuntime) -> Result<(), Fail> {
     Ok(())
 }
 
-/// A driver of boot services with no device, and a runtime driver of the device with handle 7.
+/// A boot services driver with no device, and a runtime driver of the device with handle 7.
 #[test]
 fn images_are_placed_one_after_the_other(rt: HostRuntime) -> Result<(), Fail> {
     let mut world = World::new(rt.alloc(), Board::empty(rt.alloc()), Vec::new(rt.alloc()))?;

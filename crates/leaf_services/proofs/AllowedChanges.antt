@@ -1,4 +1,4 @@
--- A row ends with a change that is allowed, and so does the second look of an open.
+-- A row ends with a change that is allowed. So does the second look of an open.
 use Rattle.std.proofs.Common.{◌≡◌, ℕ, List, true, Result, Ok, Err, IfOk, sym}
 use Rattle.service_thunks.specs.declared.service.Service.{Service}
 use Rattle.world_model.specs.World.{State}

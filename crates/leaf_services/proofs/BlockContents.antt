@@ -53,7 +53,7 @@ length_of_contents (Protocols handle) w =
       length-map listed (λ (one : List ℕ × ℕ × ℕ). one.0),
     )
 
--- one place more
+-- one more pointer to a GUID
 pub places-more : (at n i : ℕ) → number_bytes (map (λ k. at + 8 * n + 16 * k) (range_with_len 0 i)) ++ little_bytes 8 (at + 8 * n + 16 * i) ≡ number_bytes (map (λ k. at + 8 * n + 16 * k) (range_with_len 0 (i + 1)))
 places-more at n i =
     let place = λ (k : ℕ). at + 8 * n + 16 * k in
@@ -70,12 +70,12 @@ names_at at protocols =
     let count : length (names_in protocols) ≡ length protocols = length-map protocols name in
     rw (count, names) refl
 
--- the same after other bytes
+-- the same, after other bytes
 pub names_after : (before : List ℕ) (at : ℕ) (protocols : List (List ℕ × ℕ × ℕ)) → (before ++ number_bytes (name_places at (length protocols))) ++ names_alone protocols ≡ before ++ names_bytes at (names_in protocols)
 names_after before at protocols =
     append_assoc before (number_bytes (name_places at (length protocols))) (names_alone protocols) ∙ ap (λ (bytes : List ℕ). before ++ bytes) (names_at at protocols)
 
--- one record more
+-- one more record
 pub records_more : (before : List ℕ) (records : List Rec) (i : ℕ) (rec : Rec) → i < length records → rec ≡ get_or records i rec
     → (before ++ records_bytes (take i records)) ++ record_bytes rec ≡ before ++ records_bytes (take (i + 1) records)
 records_more before records i rec lt is =

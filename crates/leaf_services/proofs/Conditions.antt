@@ -1,4 +1,4 @@
--- Parts of tests that all hold.
+-- If several tests all hold, each of them holds.
 use Rattle.std.proofs.Common.{◌≡◌, Bool, true, ◌&&◌}
 use Rattle.std.proofs.lemmas.Bool.{and_parts}
 

@@ -3,7 +3,7 @@ use Rattle.std.proofs.Common.{◌≡◌, ◌+◌, ℕ, List, [], ◌∷◌, ◌+
 use Rattle.std.specs.List.{range_with_len}
 use Rattle.std.proofs.lemmas.List.FromFn.{map-range_with_len_more}
 
--- one more
+-- one more item is read
 pub one_more : {A : Type 0} → (read : ℕ → A) (i : ℕ) (old new : List A) (item : A) → new ≡ old ++ item ∷ [] → old ≡ map read (range_with_len 0 i) → item ≡ read i
     → new ≡ map read (range_with_len 0 (i + 1))
 one_more {A} read i old new item pushed is same =

@@ -1,4 +1,4 @@
--- What could be written can be written after numbers were stored.
+-- What could be written before numbers were stored can be written after it.
 use Rattle.std.proofs.Common.{◌≡◌, ℕ, true, ap, ◌∙◌}
 use Rattle.byteorder.specs.Endian.{little_bytes}
 use Rattle.guest_memory.specs.GuestMemory.{is_writable_range}

@@ -1,4 +1,4 @@
--- Pairs that can be read: each of them can.
+-- If all pairs can be read, each of them can.
 use Rattle.std.proofs.Common.{◌≡◌, ◌<◌, ◌≤◌, inl, inr, ℕ, zero, suc, ◌+◌, Bool, true, nat_le, ap, ◌∙◌, arith}
 use Rattle.std.specs.Prelude.{is_ok}
 use Rattle.std.specs.List.{list_all, range_with_len}
@@ -8,7 +8,7 @@ use Rattle.service_model.specs.Allowed.{can_read_pairs}
 use Rattle.service_model.specs.Many.{pair_at}
 use Rattle.service_model.specs.declared.numbers.TheConstants.{MOST_PAIRS}
 
--- a test that holds of a range holds of each number in it
+-- a test that holds for a range holds for each number in it
 holds_at : (test : ℕ → Bool) (from n i : ℕ) → list_all test (range_with_len from n) ≡ true → from ≤ i → i < from + n → test i ≡ true
 holds_at test from zero i all low high = absurd (omega arith)
 holds_at test from (suc n) i all low high =

@@ -1,4 +1,4 @@
--- No service goes on, except for those that may, and no second look of an open does.
+-- No service goes on, except those that may, and no second look of an open does.
 use Rattle.std.proofs.Common.{◌≡◌, false, sym, ap, ◌∙◌}
 use Rattle.std.specs.Prelude.{Result, Ok, Err, IfOk}
 use Rattle.fw_types.specs.declared.memory.OutOfMemory.{OutOfMemory}

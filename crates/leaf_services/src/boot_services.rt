@@ -1,4 +1,4 @@
-//! The table of boot services, and how a service goes.
+//! The table of boot services, and how a service is served.
 ghost use Rattle.std.specs.Prelude.{◌≡◌, ◌≤◌, ◌%◌, ◌^◌, IfOk, OnOk, false, true};
 ghost use Rattle.service_thunks.specs.Arguments.{most_arguments};
 ghost use Rattle.service_model.specs.Allowed.{is_allowed};
@@ -63,7 +63,7 @@ fn slots_of(s: Service) -> u8
     }
 }
 
-/// Whether the price of a service names an argument.
+/// Whether the price of a service depends on an argument.
 fn is_by_argument(s: Service) -> bool
     requires { is_boot_service s ≡ true }
     ensures { result ≡ (row s).by_argument }
@@ -111,7 +111,7 @@ fn price_of(s: Service, a: &[u64; 16]) -> u64
     }
 }
 
-/// The price of AllocatePool of so many bytes.
+/// The price of AllocatePool for `size` bytes.
 fn pool_price(size: u64) -> u64
     ensures { result ≡ pool_price size }
 {
@@ -173,7 +173,7 @@ fn change_for(s: Service, c: &Caller, a: &[u64; 16], w: &World) -> Result<Change
     }
 }
 
-/// The same change, which can be applied.
+/// The same change, and the fact that it can be applied.
 fn allowed_change(s: Service, c: &Caller, a: &[u64; 16], w: &World) -> Result<Change, Stop>
     requires { is_boot_service s ≡ true }
     ensures value { result ≡ (row s).rest c.now a.now w.now.now }
@@ -183,9 +183,9 @@ fn allowed_change(s: Service, c: &Caller, a: &[u64; 16], w: &World) -> Result<Ch
     change_for(s, c, a, w)
 }
 
-// ---- how a service goes
+// ---- how a service is served
 
-/// Reads the arguments of a service, and does its row's work.
+/// Reads the arguments of a service, and does what its row says.
 fn work(s: Service, c: &Caller, w: &World) -> Result<Change, Stop>
     requires { is_boot_service s ≡ true }
     ensures value { result ≡ with_arguments (row s) c.now w.now.now }
@@ -195,7 +195,7 @@ fn work(s: Service, c: &Caller, w: &World) -> Result<Change, Stop>
     allowed_change(s, c, &a, w)
 }
 
-/// A service whose price names no argument.
+/// Serves a service whose price does not depend on an argument: the price is spent first.
 fn serve_priced_first(w: &mut World, s: Service, c: &Caller) -> Result<Served, OutOfMemory>
     requires { is_boot_service s ≡ true }
     ensures now { IfOk result (λ answer. priced_first (row s) c.now w.old.now ≡ (answer, w.new.now)) }
@@ -208,7 +208,7 @@ fn serve_priced_first(w: &mut World, s: Service, c: &Caller) -> Result<Served, O
     end_row(change, w)
 }
 
-/// A service with these arguments, which its price names.
+/// Serves a service with these arguments. Its price depends on one of them.
 fn serve_with(w: &mut World, s: Service, c: &Caller, a: &[u64; 16]) -> Result<Served, OutOfMemory>
     requires { is_boot_service s ≡ true }
     ensures now { IfOk result (λ answer. with_price ((row s).price a.now) ((row s).rest c.now a.now) w.old.now ≡ (answer, w.new.now)) }
@@ -221,7 +221,7 @@ fn serve_with(w: &mut World, s: Service, c: &Caller, a: &[u64; 16]) -> Result<Se
     end_row(change, w)
 }
 
-/// A service whose price names an argument.
+/// Serves a service whose price depends on an argument: the arguments are read first.
 fn serve_priced_after(w: &mut World, s: Service, c: &Caller) -> Result<Served, OutOfMemory>
     requires { is_boot_service s ≡ true }
     ensures now { IfOk result (λ answer. priced_after (row s) c.now w.old.now ≡ (answer, w.new.now)) }
@@ -249,13 +249,13 @@ fn serve_row(w: &mut World, s: Service, c: &Caller) -> Result<Served, OutOfMemor
 /// Serves a call of a boot service (UEFI 2.8, chapter 7 'Services - Boot Services'). `s` is one of the
 /// boot services, or `Unbuilt`; the arguments are on the caller's stack, 8 bytes each from `c.sp` on.
 ///
-/// First the price is spent if it is not more than the units that are left; else the answer is `Trap`
-/// with `Budget`, and nothing is spent. Then the arguments are read, and if one can't be read the answer
-/// is `Trap` with `Memory`. If the price names an argument, they are read before it, and then nothing is
-/// spent. Then come the statuses of the service in their order, and traps with `Memory` for bytes that it
-/// can't read or write. A service that is not built answers UNSUPPORTED. ConnectController, DisconnectController,
-/// OpenProtocol, UninstallProtocolInterface and UninstallMultipleProtocolInterfaces may answer `Again`, and
-/// no other service does.
+/// First the price is spent, if at least that many units are left. Otherwise the answer is `Trap` with
+/// `Budget`, and nothing is spent. Then the arguments are read, and if one can't be read the answer is `Trap`
+/// with `Memory`. If the price depends on an argument, the arguments are read before it is spent, and nothing
+/// is spent if one can't be read. Then come the statuses of the service in their order, and traps with
+/// `Memory` for bytes that it can't read or write. A service that is not built answers UNSUPPORTED. Only
+/// ConnectController, DisconnectController, OpenProtocol, UninstallProtocolInterface and
+/// UninstallMultipleProtocolInterfaces may answer `Again`.
 ///
 /// # Errors
 ///
@@ -272,7 +272,7 @@ pub fn serve(w: &mut World, s: Service, c: &Caller) -> Result<Served, OutOfMemor
 
 // ---- the second look of an open
 
-/// The change that a second look ends with, which can be applied, or why it stops.
+/// The change that a second look ends with, or why it stops. The change can be applied.
 fn allowed_look(o: &Opening, w: &World) -> Result<Change, Stop>
     ensures value { result ≡ second_look o.now w.now.now }
     ensures allowed { IfOk result (λ change. is_allowed change w.now.now ≡ true) }
@@ -281,7 +281,7 @@ fn allowed_look(o: &Opening, w: &World) -> Result<Change, Stop>
     second_look(o, w)
 }
 
-/// Looks at an open again and answers it, after the driver in its way was disconnected.
+/// Looks at an open again after the driver in its way was disconnected, and answers it.
 #[tactic(auto, unfolding(service_model::specs::SecondLook::looked_again))]
 fn answer_look(w: &mut World, o: &Opening) -> Result<Served, OutOfMemory>
     ensures now { IfOk result (λ answer. looked_again o.now w.old.now ≡ (answer, w.new.now)) }
@@ -291,12 +291,12 @@ fn answer_look(w: &mut World, o: &Opening) -> Result<Served, OutOfMemory>
     end_row(change, w)
 }
 
-/// Answers an OpenProtocol whose driver was in the way and was disconnected (UEFI 2.8, 7.3). That driver's
-/// Stop may have changed anything, so the conditions of the open are looked at again in their order, with
-/// the arguments and the GUID as they were first read. If any agent has the interface open with BY_DRIVER
-/// or EXCLUSIVE, the answer is ACCESS_DENIED, and if there are as many records as there may be,
-/// OUT_OF_RESOURCES. Otherwise the open is recorded and the interface is stored. No units are spent, and
-/// the answer is never `Again`.
+/// Answers an OpenProtocol after the driver in its way was disconnected (UEFI 2.8, 7.3). That driver's Stop
+/// may have changed anything, so the conditions of the open are checked again in their order, with the
+/// arguments and the GUID as they were first read. If any agent has the interface open with BY_DRIVER or
+/// EXCLUSIVE, the answer is ACCESS_DENIED. If the table of open records is full, it is OUT_OF_RESOURCES.
+/// Otherwise the open is recorded and the interface is stored. No units are spent, and the answer is never
+/// `Again`.
 ///
 /// # Errors
 ///

@@ -78,7 +78,7 @@ fn add_records(bytes: &mut Vec<u8>, records: &[Rec]) -> Result<(), OutOfMemory>
     Ok(())
 }
 
-/// Appends pointers to so many GUIDs that lie after them, in a block at an address.
+/// Appends pointers to `n` GUIDs that lie after the pointers, in a block at the address `at`.
 fn add_places(bytes: &mut Vec<u8>, at: u64, n: u64) -> Result<(), OutOfMemory>
     requires few { n ≤ MOST_INTERFACES }
     requires low { at ≤ BLOCK_END }
@@ -108,7 +108,7 @@ fn add_names(bytes: &mut Vec<u8>, protocols: &[(Guid, u64, Handle)]) -> Result<(
     Ok(())
 }
 
-/// Appends pointers to the GUIDs of protocols, and then the GUIDs, for a block at an address.
+/// Appends pointers to the GUIDs of protocols and then the GUIDs, for a block at an address.
 #[tactic(auto, using(crate::proofs::BlockContents::names_after))]
 fn add_protocols(
     bytes: &mut Vec<u8>,
@@ -155,7 +155,7 @@ fn item_size(contents: &Contents) -> u64
     }
 }
 
-/// Appends the contents of a block for the next address.
+/// Appends the contents of a block that will be at the next address of the pool.
 fn add_contents(bytes: &mut Vec<u8>, contents: &Contents, w: &World) -> Result<(), OutOfMemory>
     ensures { OnOk result (bytes.new.items ≡ bytes.old.items ++ contents_bytes contents.now w.now.now) }
 {
@@ -176,8 +176,8 @@ fn add_contents(bytes: &mut Vec<u8>, contents: &Contents, w: &World) -> Result<(
     }
 }
 
-/// Makes a block of the pool with so many items. Answers its address, or `None` if a limit is met. The
-/// limits are asked before the contents are made.
+/// Makes a block of the pool with `n` items. Answers its address, or `None` if a limit is met. The
+/// limits are checked before the contents are made.
 #[tactic(auto, using(crate::proofs::BlockContents::length_of_contents))]
 fn allot_contents(contents: &Contents, n: u64, w: &mut World) -> Result<Option<u64>, OutOfMemory>
     requires all { n ≡ contents_count contents.now w.old.now }
@@ -195,7 +195,8 @@ fn allot_contents(contents: &Contents, n: u64, w: &mut World) -> Result<Option<u
     allot(bytes, w)
 }
 
-/// Stores the address of a block and the number of its items, in 8 bytes each, which can be written.
+/// Stores the address of a block and the number of its items in 8 bytes each. Those bytes can be
+/// written.
 fn store_both(
     count_first: bool,
     buffer: u64,
@@ -241,7 +242,7 @@ pub fn return_block(
     }
 }
 
-/// Stores the handles that have a protocol, or all, and how many bytes they take.
+/// Stores the handles that have a protocol, or all handles, and how many bytes they take.
 pub fn store_handles(
     guid: Option<Guid>,
     size: u64,

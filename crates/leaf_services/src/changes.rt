@@ -25,7 +25,7 @@ fn set_level(tpl: u8, answer: u64, w: &mut World) -> Result<Served, OutOfMemory>
     Ok(Served::Value(answer))
 }
 
-/// So many bytes, all 0.
+/// A vector of `size` bytes, all 0.
 fn zeros(alloc: Global, size: u64) -> Result<Vec<u8>, OutOfMemory>
     ensures { IfOk result (λ bytes. bytes.items ≡ replicate size 0) }
 {
@@ -34,7 +34,8 @@ fn zeros(alloc: Global, size: u64) -> Result<Vec<u8>, OutOfMemory>
     Ok(bytes)
 }
 
-/// Makes a block of zeros in the pool, and stores its address in 8 bytes, which can be written.
+/// Makes a block of zeros in the pool, and stores its address in 8 bytes. Those bytes can be
+/// written.
 fn make_block(size: u64, out: u64, w: &mut World) -> Result<Served, OutOfMemory>
     requires { is_writable_range w.old.now.soft.memory out 8 ≡ true }
     ensures now { IfOk result (λ served. applied (Change.Allot size out) w.old.now ≡ (served, w.new.now)) }
@@ -62,7 +63,7 @@ fn free_block(at: u64, w: &mut World) -> Result<Served, OutOfMemory>
     }
 }
 
-/// Copies bytes, which can be read and written, as if through a buffer apart from both.
+/// Copies bytes as if through a separate buffer. They can be read and written.
 fn copy_bytes(to: u64, from: u64, n: u64, w: &mut World) -> Result<Served, OutOfMemory>
     requires { is_allowed (Change.Copy to from n) w.old.now ≡ true }
     ensures now { IfOk result (λ served. applied (Change.Copy to from n) w.old.now ≡ (served, w.new.now)) }
@@ -73,7 +74,7 @@ fn copy_bytes(to: u64, from: u64, n: u64, w: &mut World) -> Result<Served, OutOf
     Ok(with_status(Status::SUCCESS))
 }
 
-/// Sets bytes, which can be written, all to one value.
+/// Sets bytes all to one value. They can be written.
 fn fill_bytes(to: u64, n: u64, byte: u8, w: &mut World) -> Result<Served, OutOfMemory>
     requires { is_writable_range w.old.now.soft.memory to n ≡ true }
     ensures now { IfOk result (λ served. applied (Change.Fill to n byte) w.old.now ≡ (served, w.new.now)) }
@@ -83,7 +84,8 @@ fn fill_bytes(to: u64, n: u64, byte: u8, w: &mut World) -> Result<Served, OutOfM
     Ok(with_status(Status::SUCCESS))
 }
 
-/// Stores a number if a place is given for it, which can be written, and answers a status.
+/// Stores a number if an address is given for it, and answers a status. The bytes there can be
+/// written.
 fn store_value(
     out: Option<u64>,
     value: u64,
@@ -189,7 +191,7 @@ pub fn apply(change: Change, w: &mut World) -> Result<Served, OutOfMemory>
     }
 }
 
-/// Applies the change that a row ends with, or leaves all as it is.
+/// Applies the change that a row ends with, or changes nothing if the row stopped.
 ///
 /// # Errors
 ///

@@ -1,5 +1,5 @@
-//! ConnectController and DisconnectController, up to where they enter the driver model. The table of
-//! services has them as not built, so their rows are called here.
+//! ConnectController and DisconnectController, up to where they enter the driver model. Their rows are
+//! called here, not `serve`.
 
 ghost use Rattle.std.specs.Prelude.{◌≡◌, IfOk, false, true};
 ghost use Rattle.service_model.specs.Allowed.{is_allowed};
@@ -33,19 +33,19 @@ const TRAPPED: Result<(u64, bool, bool), Stop> = Err(Stop::Trap(Cause::Memory));
 
 const INVALID: Result<(u64, bool, bool), Stop> = Err(Stop::Status(Status::INVALID_PARAMETER));
 
-/// A list, a path and the last argument; and how many handles the list has, whether the path is at its end
-/// and whether children are connected too, or why the row stops.
+/// A list, a path and the last argument; then what is expected: how many handles the list has, whether the
+/// path is at its end and whether children are connected too, or why the row stops.
 type Connect = (u64, u64, u8, Result<(u64, bool, bool), Stop>);
 
 const CONNECTS: [Connect; 16] = [
-    // a pointer that can't be read before a list that does not end
+    // a pointer that can't be read answers before a list that does not end
     (ENDLESS, BAD, 0, TRAPPED),
     (ENDLESS, STACK_END - 3, 0, TRAPPED),
     (LAST, END, 0, TRAPPED),
     (LAST, BAD, 0, TRAPPED),
     (BAD, END, 0, TRAPPED),
     (BAD, BAD, 0, TRAPPED),
-    // each alone
+    // each of the two alone
     (ENDLESS, 0, 0, INVALID),
     (ENDLESS, END, 1, INVALID),
     (TWO, STACK_END - 3, 0, TRAPPED),
@@ -59,7 +59,7 @@ const CONNECTS: [Connect; 16] = [
     (ENDLESS + 8, 0, 0, Ok((63, false, false))),
 ];
 
-/// Makes of an empty world one with those lists and paths, and 7 in the last 8 bytes of the stack.
+/// Puts those lists and paths into an empty world, and 7 into the last 8 bytes of the stack.
 fn prepare(rt: &impl AllocGlobal, world: &mut World) -> Result<(), Fail>
     requires { has_stack 1 world.old.now.soft.memory ≡ false }
 {

@@ -10,7 +10,7 @@ use fw_world::World;
 use service_model::laws::puts_leave_writable;
 use service_model::{COMMAND, Change, Served, Transfer};
 
-/// A copy of bytes of a device, which are there.
+/// A copy of bytes that a device has.
 fn copy_of_device(transfer: &Transfer, w: &World) -> Result<Vec<u8>, OutOfMemory>
     requires { has_range (space_of w.now.now.hard.board transfer.now.function transfer.now.space) (transfer.now.at + transfer.now.n) ≡ true }
     ensures bytes { IfOk result (λ copy. copy.items ≡ device_bytes transfer.now w.now.now) }
@@ -23,7 +23,7 @@ fn copy_of_device(transfer: &Transfer, w: &World) -> Result<Vec<u8>, OutOfMemory
     Ok(Vec::from_slice(w.alloc(), &bytes[..transfer.n as usize])?)
 }
 
-/// Reads bytes of a device, which are there, into memory, which can be written.
+/// Reads bytes that a device has into memory that can be written.
 pub fn read_device(transfer: &Transfer, w: &mut World) -> Result<Served, OutOfMemory>
     requires { is_allowed (Change.ReadDevice transfer.now) w.old.now ≡ true }
     ensures now { IfOk result (λ served. applied (Change.ReadDevice transfer.now) w.old.now ≡ (served, w.new.now)) }
@@ -34,7 +34,7 @@ pub fn read_device(transfer: &Transfer, w: &mut World) -> Result<Served, OutOfMe
     Ok(with_status(Status::SUCCESS))
 }
 
-/// Writes bytes from memory, which can be read, to a device, which has such bytes.
+/// Writes bytes from memory that can be read to bytes that a device has.
 pub fn write_device(transfer: &Transfer, w: &mut World) -> Result<Served, OutOfMemory>
     requires { is_allowed (Change.WriteDevice transfer.now) w.old.now ≡ true }
     ensures now { IfOk result (λ served. applied (Change.WriteDevice transfer.now) w.old.now ≡ (served, w.new.now)) }
@@ -45,7 +45,7 @@ pub fn write_device(transfer: &Transfer, w: &mut World) -> Result<Served, OutOfM
     Ok(with_status(Status::SUCCESS))
 }
 
-/// Stores the numbers of a location in the order of the arguments, each in 8 bytes, which can be written.
+/// Stores the numbers of a location in the order of the arguments, each in 8 bytes that can be written.
 /// The segment group is 0.
 pub fn store_location(
     segment: u64,
@@ -67,7 +67,7 @@ pub fn store_location(
     Ok(with_status(Status::SUCCESS))
 }
 
-/// Writes the command register of a function, which is there.
+/// Writes the command register of a function that the board has.
 pub fn set_command(function: u32, command: u64, w: &mut World) -> Result<Served, OutOfMemory>
     requires { is_allowed (Change.SetCommand function command) w.old.now ≡ true }
     ensures now { IfOk result (λ served. applied (Change.SetCommand function command) w.old.now ≡ (served, w.new.now)) }

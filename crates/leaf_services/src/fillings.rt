@@ -8,16 +8,16 @@ use std::test::Fail;
 /// What is used up.
 #[derive(Clone, Copy)]
 pub(crate) enum Filling {
-    /// Protocols from one number to another are installed on handle 4.
+    /// Protocols with these numbers, from the first to just before the second, are installed on handle 4.
     Interfaces(u64, u64),
-    /// 32 pairs are put at `LIST`, after `FIRST`, and then a word.
+    /// 32 pairs are put at `LIST`, after the word `FIRST`, and then this word.
     Pairs(u64),
-    /// As many blocks as may be, beside the loaded image block.
+    /// As many blocks as there may be are made, counting the loaded image block.
     Blocks,
-    /// Protocol 1 is installed on so many new handles.
+    /// Protocol 1 is installed on this many new handles.
     Handles(u64),
-    /// 63 protocols of handle 4 are opened in 1,083 ways, the last ones in vain. The first of them is at
-    /// `OTHER`.
+    /// 63 protocols of handle 4 are each opened in 1,083 ways, until no record is free and the last opens
+    /// fail. The GUID of the first of them is then at `OTHER`.
     Records,
 }
 
@@ -40,7 +40,7 @@ fn install_from(world: &mut World, from: u64, to: u64) -> Result<(), Fail> {
     put_name(world, OTHER, 2)
 }
 
-/// Puts 32 pairs at `LIST`, after `FIRST`, and then a word.
+/// Puts 32 pairs at `LIST`, after the word `FIRST`, and then the word `last`.
 fn put_pairs(world: &mut World, last: u64) -> Result<(), Fail> {
     put_word(world, LIST, FIRST)?;
     let mut name = PLACE + 0x200;
@@ -55,7 +55,7 @@ fn put_pairs(world: &mut World, last: u64) -> Result<(), Fail> {
     put_word(world, at, last)
 }
 
-/// Makes as many blocks of no bytes as may be, beside the loaded image block.
+/// Makes as many blocks of no bytes as there may be, counting the loaded image block.
 fn most_blocks(world: &mut World) -> Result<(), Fail> {
     for _ in 0..65_535 {
         if call(world, Service::AllocatePool, &[0, 0, SECOND])? != DONE {
@@ -65,7 +65,7 @@ fn most_blocks(world: &mut World) -> Result<(), Fail> {
     Ok(())
 }
 
-/// Installs protocol 1 on so many new handles.
+/// Installs protocol 1 on `many` new handles.
 fn new_handles(world: &mut World, many: u64) -> Result<(), Fail> {
     for _ in 0..many {
         put_word(world, FIRST, 0)?;
@@ -74,8 +74,8 @@ fn new_handles(world: &mut World, many: u64) -> Result<(), Fail> {
     Ok(())
 }
 
-/// Opens the protocol at `OTHER` on handle 4 in all ways of handles 1 to 19 that keep nobody out, which are
-/// 1,083.
+/// Opens the protocol whose GUID is at `OTHER` on handle 4 with each of handles 1 to 19 as agent and as
+/// controller, with each of the three attributes that keep nobody out: 1,083 opens.
 fn open_many(world: &mut World) -> Result<(), Fail> {
     for i in 0..1083u64 {
         let (agent, controller) = (1 + i % 19, 1 + i / 19 % 19);
@@ -90,7 +90,8 @@ fn open_many(world: &mut World) -> Result<(), Fail> {
     Ok(())
 }
 
-/// Opens 63 protocols of handle 4 so, the last ones in vain, and leaves the first of them at `OTHER`.
+/// Opens 63 protocols of handle 4 in this way, until the last opens fail, and leaves the GUID of the first
+/// at `OTHER`.
 fn fill_table(world: &mut World) -> Result<(), Fail> {
     for number in 100..163 {
         put_name(world, OTHER, number)?;

@@ -54,7 +54,8 @@ pub fn install(
     }
 }
 
-/// Installs an interface that nothing refuses on a handle or on a new one, and answers that handle.
+/// Installs an interface on a handle or on a new one, and answers that handle. Nothing refuses the
+/// interface.
 fn install_on(
     handle: &Option<Handle>,
     guid: Guid,
@@ -75,7 +76,7 @@ fn install_on(
     }
 }
 
-/// Installs a pair that nothing refuses on a handle or on a new one, and answers that handle.
+/// Installs a pair on a handle or on a new one, and answers that handle. Nothing refuses the pair.
 fn install_pair(
     i: u64,
     list: u64,

@@ -1,10 +1,10 @@
 //! The boot services, up to where a service enters the driver model again.
 //!
 //! `serve` is the table of `service_model`, `specs/BootServices.antt`. Each row of it is a function of
-//! `service_rows` that looks at the arguments and at the world, and answers a change or why it stops.
-//! `changes` alone changes the world, by the calls of `storing`, `interfaces`, `buffers` and `devices`, also
-//! for the functions of PCI I/O; `reentries` has what services go on with that enter the driver model again, and `reopen` is the second look of an
-//! OpenProtocol for which a driver was disconnected.
+//! `service_rows` that looks at the arguments and at the world, and answers a change or why it stops. Only
+//! `changes` changes the world, by the calls of `storing`, `interfaces`, `buffers` and `devices`, also for
+//! the functions of PCI I/O. `reentries` has what services that enter the driver model again go on with.
+//! `reopen` is the second look of an OpenProtocol for which a driver was disconnected.
 #![tactic(auto)]
 
 mod boot_services;

@@ -1,4 +1,4 @@
-//! Services when a limit is met: what else is wrong with a call answers before that.
+//! Services when a limit is met: anything else that is wrong with a call answers before the limit.
 
 use crate::fillings::Filling;
 use crate::order_tests::TABLE_ZERO;
@@ -29,7 +29,7 @@ fn many_interfaces(rt: HostRuntime) -> Result<(), Fail> {
     from_protocol(&rt, &steps)
 }
 
-/// InstallMultipleProtocolInterfaces on a handle that may have one interface more.
+/// InstallMultipleProtocolInterfaces on a handle that may have one more interface.
 #[test]
 fn pairs_past_the_limit(rt: HostRuntime) -> Result<(), Fail> {
     let s = Service::InstallMultiple;
@@ -47,7 +47,7 @@ fn pairs_past_the_limit(rt: HostRuntime) -> Result<(), Fail> {
 
 // ---- 32 pairs
 
-/// 33 pairs, of which the last one's GUID is not read, and 32.
+/// 33 pairs, of which the last one's GUID is not read, and then 32.
 #[test]
 fn most_pairs(rt: HostRuntime) -> Result<(), Fail> {
     let s = Service::InstallMultiple;
@@ -55,7 +55,8 @@ fn most_pairs(rt: HostRuntime) -> Result<(), Fail> {
         Step::Fills(Filling::Pairs(BAD)),
         Step::Writes(FIRST, 0),
         Step::CallsAt(s, LIST, INVALID),
-        // a handle's place that can't be written, and a GUID of the first 32 that can't be read, answer before
+        // an address for the handle that can't be written answers first, and so does one of the first 32
+        // GUIDs that can't be read
         Step::Writes(LIST, TABLE_ZERO),
         Step::CallsAt(s, LIST, TRAPPED),
         Step::Writes(LIST, FIRST),
@@ -69,7 +70,7 @@ fn most_pairs(rt: HostRuntime) -> Result<(), Fail> {
     from_protocol(&rt, &steps)
 }
 
-/// 33 pairs answer before the limit on interfaces, which 32 meet.
+/// 33 pairs are refused before the limit on interfaces is looked at, which 32 pairs meet.
 #[test]
 fn most_pairs_past_the_limit(rt: HostRuntime) -> Result<(), Fail> {
     let s = Service::InstallMultiple;
@@ -110,7 +111,7 @@ const INFORMATIONS: &[Call] = &[
 fn full_pool(rt: HostRuntime) -> Result<(), Fail> {
     let steps = [
         Step::Calls(Service::HandleProtocol, &[4, NAME, SECOND], DONE),
-        // beside the 96 bytes of the loaded image block
+        // all that the 96 bytes of the loaded image block leave
         Step::Calls(Service::AllocatePool, &[0, 67_108_768, SECOND], DONE),
         Step::Writes(SECOND, 7),
         Step::CallsAll(Service::ProtocolsPerHandle, PROTOCOLS),
@@ -128,7 +129,8 @@ fn full_pool(rt: HostRuntime) -> Result<(), Fail> {
     from_protocol(&rt, &steps)
 }
 
-/// Services that make a block, when there are as many blocks as may be: not even one of no bytes has room.
+/// Services that make a block, when there are as many blocks as there may be: there is no room even for a
+/// block of no bytes.
 const MORE_BLOCKS: &[Call] = &[
     ([0, 0, 0, 0, 0, 0], INVALID),
     ([0, 0, BAD, 0, 0, 0], TRAPPED),
@@ -167,8 +169,8 @@ fn most_blocks(rt: HostRuntime) -> Result<(), Fail> {
 
 // ---- a full database
 
-/// InstallProtocolInterface when 4,096 handles are live: `FIRST` has the number of none, and `SECOND` that of
-/// handle 4.
+/// InstallProtocolInterface when 4,096 handles are live: `FIRST` has 0, the number of no handle, and `SECOND`
+/// has that of handle 4.
 const NEW_HANDLES: &[Call] = &[
     ([FIRST, 0, 0, 5, 0, 0], INVALID),
     ([TABLE_ZERO, OTHER, 0, 5, 0, 0], TRAPPED),
@@ -212,14 +214,14 @@ const OPENS: &[Call] = &[
     ([4, NOWHERE, SECOND, 3, 2, 0x10], UNKNOWN),
     ([4, OTHER, SECOND, 3, 2, 0x10], FULL),
     ([4, OTHER, SECOND, 1, 0, 0x02], FULL),
-    // what is counted, what is not entered, and what the records answer
+    // no new record is needed: the open is counted, or not recorded, or answered by the records
     ([4, OTHER, BAD, 19, 19, 0x04], DONE),
     ([4, OTHER, SECOND, 99, 1, 0x01], DONE),
     ([4, NAME, SECOND, 3, 2, 0x10], STARTED),
     ([4, NAME, SECOND, 1, 2, 0x10], DENIED),
 ];
 
-/// And HandleProtocol.
+/// HandleProtocol when there are 65,536 records.
 const HANDLE_PROTOCOLS: &[Call] = &[
     ([4, OTHER, 0, 0, 0, 0], INVALID),
     ([4, OTHER, BAD, 0, 0, 0], TRAPPED),

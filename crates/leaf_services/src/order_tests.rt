@@ -1,5 +1,5 @@
-//! Of two things that are wrong with a call, the earlier answers: for each two refusals or traps of a
-//! service that answer differently and can both be true, a call in which both are.
+//! If two things are wrong with a call, the earlier check answers. For each two refusals or traps of a
+//! service that answer differently and can hold at once, there is a call in which both hold.
 
 use crate::steps::{
     BAD, Call, DENIED, DONE, FIRST, GOES_ON, INVALID, LOADED, MISSING, NAME, NOWHERE, OTHER,
@@ -8,23 +8,23 @@ use crate::steps::{
 use service_thunks::Service;
 use std::test::Fail;
 
-/// A place in a table whose 8 bytes are 1, the firmware's handle, and one whose bytes are 0.
+/// A place in a table whose 8 bytes are 1, the firmware's handle, and a place whose 8 bytes are 0.
 const TABLE_ONE: u64 = TABLE + 32;
 
 pub(crate) const TABLE_ZERO: u64 = TABLE + 40;
 
 /// InstallProtocolInterface, with the number of a dead handle at `SECOND`.
 const INSTALLS: &[Call] = &[
-    // a pointer that is NULL before the other
+    // a pointer that is NULL is found before the other is read
     ([0, BAD, 0, 5, 0, 0], INVALID),
     ([BAD, 0, 0, 5, 0, 0], INVALID),
-    // pointers before the type
+    // pointers are checked before the type
     ([TABLE_ZERO, NAME, 1, 5, 0, 0], TRAPPED),
     ([FIRST, BAD, 1, 5, 0, 0], TRAPPED),
-    // before a dead handle
+    // pointers are checked before a dead handle is found
     ([TABLE, NAME, 0, 5, 0, 0], TRAPPED),
     ([SECOND, BAD, 0, 5, 0, 0], TRAPPED),
-    // and before a protocol that is there
+    // and before a protocol that is already installed
     ([TABLE_ONE, LOADED, 0, 5, 0, 0], TRAPPED),
     // each alone
     ([FIRST, OTHER, 1, 5, 0, 0], INVALID),
@@ -48,12 +48,12 @@ const UNINSTALLS: &[Call] = &[
     ([4, 0, 5, 0, 0, 0], INVALID),
     ([99, BAD, 5, 0, 0, 0], TRAPPED),
     ([99, NAME, 5, 0, 0, 0], INVALID),
-    // an interface at another address is not there
+    // the handle does not have an interface at another address
     ([1, LOADED, 5, 0, 0, 0], MISSING),
     ([4, NAME, 6, 0, 0, 0], MISSING),
     // each alone
     ([4, NOWHERE, 5, 0, 0, 0], MISSING),
-    // neither who owns it is looked at yet, nor who uses it
+    // it is not checked yet who owns the interface or who uses it
     ([1, LOADED, 0x1_4000, 0, 0, 0], GOES_ON),
     ([4, NAME, 5, 0, 0, 0], GOES_ON),
 ];
@@ -95,7 +95,7 @@ const OPENS: &[Call] = &[
     ([99, NAME, SECOND, 3, 2, 0x10], INVALID),
     ([4, BAD, 0, 3, 2, 0x10], INVALID),
     ([4, NOWHERE, 0, 3, 2, 0x10], INVALID),
-    // pointers before what is wrong with the attribute, the agent and the controller
+    // pointers are checked before the attribute, the agent and the controller
     ([4, BAD, SECOND, 3, 2, 0x03], TRAPPED),
     ([4, BAD, SECOND, 99, 2, 0x10], TRAPPED),
     ([4, BAD, SECOND, 3, 99, 0x10], TRAPPED),
@@ -105,7 +105,7 @@ const OPENS: &[Call] = &[
     ([4, NAME, TABLE, 3, 99, 0x10], TRAPPED),
     ([4, NAME, TABLE, 3, 4, 0x08], TRAPPED),
     ([4, NOWHERE, BAD, 3, 2, 0x01], TRAPPED),
-    // these before it is asked whether the protocol is there
+    // these are checked before it is asked whether the handle has the protocol
     ([4, NOWHERE, SECOND, 3, 2, 0x03], INVALID),
     ([4, NOWHERE, SECOND, 99, 2, 0x20], INVALID),
     ([4, NOWHERE, SECOND, 0, 2, 0x20], INVALID),
@@ -146,7 +146,7 @@ const CLOSES: &[Call] = &[
     ([4, BAD, 99, 2, 0, 0], TRAPPED),
     ([4, BAD, 3, 99, 0, 0], TRAPPED),
     ([99, NAME, 3, 2, 0, 0], INVALID),
-    // before a protocol, and before a record, that is not there
+    // dead handles are found before a protocol or a record that is not there
     ([4, NOWHERE, 99, 2, 0, 0], INVALID),
     ([4, NOWHERE, 3, 99, 0, 0], INVALID),
     ([4, NAME, 99, 2, 0, 0], INVALID),
@@ -169,11 +169,11 @@ const INFORMATIONS: &[Call] = &[
     ([4, NAME, 0, BAD, 0, 0], INVALID),
     ([4, BAD, FIRST, 0, 0, 0], INVALID),
     ([4, NAME, BAD, 0, 0, 0], INVALID),
-    // NULL before a dead handle, and before a protocol that is not there
+    // NULL is found before a dead handle and before a protocol that is not there
     ([99, 0, FIRST, SECOND, 0, 0], INVALID),
     ([99, NAME, 0, SECOND, 0, 0], INVALID),
     ([4, NOWHERE, FIRST, 0, 0, 0], INVALID),
-    // and so the other pointers
+    // and so are the other pointers
     ([99, BAD, FIRST, SECOND, 0, 0], TRAPPED),
     ([99, NAME, TABLE, SECOND, 0, 0], TRAPPED),
     ([99, NAME, FIRST, TABLE, 0, 0], TRAPPED),
@@ -219,13 +219,13 @@ const SEARCHES: &[Call] = &[
     ([2, NOWHERE, 0, 0, SECOND, 0], INVALID),
     ([2, NAME, 0, 0, BAD, 0], INVALID),
     ([2, 0, 0, BAD, SECOND, 0], INVALID),
-    // the first pointers before a buffer that is NULL, and before what is found
+    // the first pointers are checked before a buffer that is NULL, and before the search
     ([2, BAD, 0, FIRST, 0, 0], TRAPPED),
     ([2, NAME, 0, TABLE, 0, 0], TRAPPED),
     ([2, NOWHERE, 0, TABLE, SECOND, 0], TRAPPED),
     ([2, NAME, 0, TABLE_ZERO, SECOND, 0], TRAPPED),
     ([2, NOWHERE, 0, FIRST, 0, 0], MISSING),
-    // alone
+    // each alone
     ([2, NOWHERE, 0, FIRST, SECOND, 0], MISSING),
     ([2, NAME, 0, FIRST, 0, 0], INVALID),
     ([2, NAME, 0, FIRST, BAD, 0], TRAPPED),
@@ -237,7 +237,7 @@ fn searches(rt: HostRuntime) -> Result<(), Fail> {
     let steps = [
         Step::Writes(FIRST, 8),
         Step::CallsAll(s, SEARCHES),
-        // a size that is not enough before what is wrong with the buffer; the one that is needed is stored
+        // a size that is not enough answers before the buffer is checked; the size that is needed is stored
         Step::Writes(FIRST, 7),
         Step::Calls(s, &[2, NAME, 0, FIRST, 0, 0], SMALL),
         Step::Words(FIRST, &[8]),
@@ -303,10 +303,10 @@ fn lists(rt: HostRuntime) -> Result<(), Fail> {
         Step::CallsList(s, &[FIRST, NAME, 6, 0, 0, 0], INVALID),
         Step::CallsList(s, &[FIRST, OTHER, 6, OTHER, 7, 0], INVALID),
         Step::CallsList(s, &[SECOND, OTHER, 6, 0, 0, 0], INVALID),
-        // a list of no pairs: the handle's value is not looked at, but can be written
+        // a list of no pairs: the handle's value is not looked at, but it must be writable
         Step::CallsList(s, &[TABLE, 0, 0, 0, 0, 0], TRAPPED),
         Step::CallsList(s, &[SECOND, 0, 0, 0, 0, 0], DONE),
-        // the list is read before all else
+        // the list is read before anything else
         Step::Writes(STACK_END - 8, 0),
         Step::CallsAt(s, STACK_END - 8, TRAPPED),
         Step::Words(FIRST, &[4, 99]),

@@ -19,7 +19,8 @@ use std::test::Fail;
 
 // ---- installing and uninstalling
 
-/// A new handle is stored, its interface is opened twice, and its protocol is not installed again.
+/// The number of a new handle is stored, its interface is opened twice, and its protocol is not installed
+/// again.
 #[test]
 fn first_interface(rt: HostRuntime) -> Result<(), Fail> {
     let steps = [
@@ -48,7 +49,8 @@ const UNINSTALL: &[u64] = &[4, NAME, 5];
 
 const CLOSE: &[u64] = &[4, NAME, 3, 2];
 
-/// An interface that is there goes on to be uninstalled, whoever has it open. Nothing changes before.
+/// The service goes on with an interface that the handle has, whoever has it open. Nothing changes before
+/// that.
 #[test]
 fn interfaces_to_uninstall(rt: HostRuntime) -> Result<(), Fail> {
     let steps = [
@@ -75,8 +77,8 @@ fn interfaces_to_uninstall(rt: HostRuntime) -> Result<(), Fail> {
     from_protocol(&rt, &steps)
 }
 
-/// Pairs that are all there go on to be uninstalled. One that is not there is refused, as is a handle that
-/// is dead.
+/// The service goes on with pairs that the handle has. It refuses a list with a pair that the handle does not
+/// have, and a dead handle.
 #[test]
 fn pairs_to_uninstall(rt: HostRuntime) -> Result<(), Fail> {
     let s = Service::UninstallMultiple;
@@ -86,13 +88,13 @@ fn pairs_to_uninstall(rt: HostRuntime) -> Result<(), Fail> {
         Step::CallsList(s, &[4, NAME, 5, OTHER, 5, 0], INVALID),
         Step::CallsList(s, &[4, 0], GOES_ON),
         Step::CallsList(s, &[99, 0], INVALID),
-        // pointers before the handle
+        // pointers are checked before the handle
         Step::CallsList(s, &[99, BAD, 5, 0], TRAPPED),
     ];
     from_protocol(&rt, &steps)
 }
 
-/// Pairs, the last of which handle 4 has.
+/// Pairs, of which handle 4 has the last.
 const LIST_OF_PAIRS: &[u64] = &[FIRST, OTHER, 6, NOWHERE, 7, NAME, 8, 0];
 
 /// Pairs are installed on one new handle; a third pair that is refused leaves nothing.
@@ -104,7 +106,7 @@ fn pairs(rt: HostRuntime) -> Result<(), Fail> {
         Step::CallsList(s, &[FIRST, OTHER, 6, NOWHERE, 7, OTHER, 8, 0], INVALID),
         Step::Words(FIRST, &[0]),
         Step::Live(5, false),
-        // on a handle that has the third
+        // and on a handle that has the third
         Step::Writes(FIRST, 4),
         Step::CallsList(s, LIST_OF_PAIRS, INVALID),
         Step::Interfaces(4, 1),
@@ -124,7 +126,7 @@ fn pairs(rt: HostRuntime) -> Result<(), Fail> {
 #[test]
 fn opens(rt: HostRuntime) -> Result<(), Fail> {
     let steps = [
-        // no such protocol: 0 is stored, but never by a test
+        // no such protocol: 0 is stored, but never with TEST_PROTOCOL
         Step::Opens(&[4, NOWHERE, SECOND, 3, 2, 0x10], UNKNOWN, 0, 0),
         Step::Opens(&[4, NOWHERE, SECOND, 3, 2, 0x04], UNKNOWN, 7, 0),
         Step::Opens(&[4, NOWHERE, 0, 3, 2, 0x04], UNKNOWN, 7, 0),
@@ -139,7 +141,7 @@ fn opens(rt: HostRuntime) -> Result<(), Fail> {
         Step::Opens(&[4, NAME, SECOND, 3, 2, 0x10], DONE, 5, 3),
         Step::Opens(&[4, NAME, SECOND, 3, 1, 0x10], STARTED, 5, 3),
         Step::Opens(&[4, NAME, SECOND, 1, 2, 0x10], DENIED, 7, 3),
-        // the driver is disconnected first, and nothing changes before
+        // the driver is disconnected first, and nothing changes before that
         Step::Opens(&[4, NAME, SECOND, 1, 2, 0x20], GOES_ON, 7, 3),
         // the attribute's upper half is not looked at
         Step::Opens(&[4, NAME, SECOND, 1, 2, 0x1_0000_0002], DONE, 5, 4),
@@ -147,7 +149,7 @@ fn opens(rt: HostRuntime) -> Result<(), Fail> {
     from_protocol(&rt, &steps)
 }
 
-/// A dead controller counts as 0 with EXCLUSIVE, of which a dead agent is refused.
+/// A dead controller counts as 0 with EXCLUSIVE, although a dead agent is refused.
 #[test]
 fn exclusive_for_a_dead_controller(rt: HostRuntime) -> Result<(), Fail> {
     let steps = [
@@ -167,7 +169,7 @@ const LOOKS: [Look; 4] = [
     (3, 99, 0x30, INVALID, 7),
     // a controller that is dead counts as 0
     (3, 99, 0x20, DONE, 5),
-    // that open keeps out each one after it, also of the same agent
+    // that open keeps out each later one, even of the same agent
     (3, 2, 0x30, DENIED, 7),
 ];
 
@@ -284,7 +286,7 @@ fn rising_handles(rt: HostRuntime) -> Result<(), Fail> {
         // neither the key nor the upper half of the type of search is looked at
         Step::Calls(s, &[0x1_0000_0002, OTHER, BAD, FIRST, SECOND], DONE),
         Step::Words(FIRST, &[16, 2, 5]),
-        // of all handles the GUID is not looked at
+        // in a search for all handles the GUID is not looked at
         Step::Calls(s, &[0, BAD, BAD, FIRST, SECOND], SMALL),
         Step::Words(FIRST, &[40, 2, 5]),
         Step::Calls(s, &[0, BAD, BAD, FIRST, SECOND], DONE),

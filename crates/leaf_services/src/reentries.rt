@@ -56,7 +56,7 @@ pub fn connect(
     }))
 }
 
-/// The interface of a handle that a pair names, which can be read.
+/// The interface of a handle that a pair names. The pair can be read.
 fn interface_named(handle: Handle, list: u64, i: u64, w: &World) -> HandleInterface
     requires few { i ≤ MOST_PAIRS }
     requires read { is_ok (pair_at_value list i w.now.now) ≡ true }

@@ -103,31 +103,31 @@ pub(crate) enum Step {
     Names(u64, u64),
     /// Something is used up.
     Fills(Filling),
-    /// Image 3 calls a service with these arguments, and it answers so.
+    /// Image 3 calls a service with these arguments, and the service answers this.
     Calls(Service, &'static [u64], Answer),
-    /// And it spends so many units.
+    /// The same, and the service spends this many units.
     Spends(Service, &'static [u64], Answer, u64),
     /// A service answers each of these calls as given.
     CallsAll(Service, &'static [Call]),
-    /// The same of the arguments that lie at an address.
+    /// Image 3 calls a service with the arguments that lie at an address.
     CallsAt(Service, u64, Answer),
-    /// And of arguments that are first put at `LIST`.
+    /// The same with arguments that are first put at `LIST`.
     CallsList(Service, &'static [u64], Answer),
-    /// AllocatePool of so many bytes: what it answers, what is then at `PLACE`, where 7 was, and the units that
-    /// it spends.
+    /// AllocatePool of this many bytes: what it answers, what is then at `PLACE`, where 7 was, and the units
+    /// that it spends.
     Allocates(u64, Answer, u64, u64),
     /// OpenProtocol: what it answers, what is then at `SECOND`, where 7 was, and how many records there are.
     Opens(&'static [u64], Answer, u64, u32),
-    /// These words lie from an address on, 8 bytes each.
+    /// These words of 8 bytes lie one after the other from an address on.
     Words(u64, &'static [u64]),
     /// 4 bytes are read at an address.
     Half(u64, u32),
     /// A byte is read at an address.
     Byte(u64, u8),
-    /// No 8 bytes, and no byte, can be read at an address.
+    /// No 8 bytes can be read at an address, or not even one byte.
     NoWord(u64),
     NoByte(u64),
-    /// So many units are left.
+    /// This many units are left.
     Left(u64),
     /// The task priority level.
     Level(u8),
@@ -225,7 +225,7 @@ fn put_words(world: &mut World, at: u64, words: &[u64]) -> Result<(), Fail> {
     Ok(())
 }
 
-/// Whether a service is one of the boot services, and no function of PCI I/O.
+/// Whether a service is one of the boot services, not a function of PCI I/O.
 fn is_boot(s: Service) -> bool
     ensures { result ≡ is_boot_service s }
 {
@@ -413,7 +413,7 @@ pub(crate) fn empty_world(rt: &impl AllocGlobal) -> Result<World, Fail>
     Ok(world)
 }
 
-/// Adds a stack of level 1 and one image, whose handle is 3, and so many units.
+/// Adds a stack of level 1 and one image, whose handle is 3, and `units` units.
 pub(crate) fn set_up(rt: &impl AllocGlobal, world: &mut World, units: u32) -> Result<(), Fail>
     requires { has_stack 1 world.old.now.soft.memory ≡ false }
 {
@@ -423,12 +423,12 @@ pub(crate) fn set_up(rt: &impl AllocGlobal, world: &mut World, units: u32) -> Re
     Ok(())
 }
 
-/// Takes the steps from a world with 100 units on.
+/// Takes the steps, beginning from a world with 100 units.
 pub(crate) fn from_start(rt: &(impl AllocGlobal + Abort), steps: &[Step]) -> Result<(), Fail> {
     from_units(rt, 100, steps)
 }
 
-/// Takes the steps from a world with so many units on.
+/// Takes the steps, beginning from a world with `units` units.
 pub(crate) fn from_units(
     rt: &(impl AllocGlobal + Abort),
     units: u32,
@@ -451,7 +451,7 @@ fn set_up_and_take(
 }
 
 /// Image 3 installs protocol 1 with interface 5 on handle 4, whose number is then at `FIRST`. Of protocols 2
-/// and 9 there are only the GUIDs.
+/// and 9 only the GUIDs are there.
 const PREPARES: &[Step] = &[
     Step::Names(NAME, 1),
     Step::Names(OTHER, 2),
@@ -462,14 +462,14 @@ const PREPARES: &[Step] = &[
     Step::Calls(Service::Install, &[FIRST, NAME, 0, 5], DONE),
 ];
 
-/// Makes of an empty world one with protocol 1 on handle 4.
+/// Makes an empty world into one with protocol 1 on handle 4.
 pub(crate) fn prepare(rt: &(impl AllocGlobal + Abort), world: &mut World) -> Result<(), Fail>
     requires { has_stack 1 world.old.now.soft.memory ≡ false }
 {
     set_up_and_take(rt, world, 4_000_000, PREPARES)
 }
 
-/// Takes the steps from a world with protocol 1 on handle 4 on.
+/// Takes the steps, beginning from a world with protocol 1 on handle 4.
 pub(crate) fn from_protocol(rt: &(impl AllocGlobal + Abort), steps: &[Step]) -> Result<(), Fail> {
     let mut world = empty_world(rt)?;
     prepare_and_take(rt, &mut world, steps)

@@ -1,5 +1,5 @@
-//! What several changes do: a status is answered, a number is stored, a block of the pool is made, bytes
-//! are copied.
+//! What several changes have in common: a status is answered, a number is stored, a block of the pool is
+//! made, bytes are copied.
 ghost use Rattle.std.specs.Prelude.{◌≡◌, IfOk, OnOk, length, true};
 ghost use Rattle.guest_memory.specs.GuestMemory.{bytes_of, is_readable, is_writable_range};
 ghost use Rattle.service_model.specs.Allowed.{can_store};
@@ -19,7 +19,7 @@ pub fn with_status(status: Status) -> Served
     Served::Value(status.0)
 }
 
-/// Stores a number in 8 bytes, which can be written.
+/// Stores a number in 8 bytes that can be written.
 pub fn store(at: u64, value: u64, w: &mut World) -> Result<(), OutOfMemory>
     requires { is_writable_range w.old.now.soft.memory at 8 ≡ true }
     ensures now { OnOk result (w.new.now ≡ number_stored at value w.old.now) }
@@ -28,7 +28,7 @@ pub fn store(at: u64, value: u64, w: &mut World) -> Result<(), OutOfMemory>
     w.put(at, &value.to_le_bytes())
 }
 
-/// Stores a number if a place is given for it, which can be written.
+/// Stores a number if an address is given for it. The bytes there can be written.
 pub fn store_if(out: Option<u64>, value: u64, w: &mut World) -> Result<(), OutOfMemory>
     requires { can_store out w.old.now ≡ true }
     ensures now { OnOk result (w.new.now ≡ stored_if out value w.old.now) }
@@ -55,7 +55,7 @@ pub fn allot(bytes: Vec<u8>, w: &mut World) -> Result<Option<u64>, OutOfMemory>
     }
 }
 
-/// A copy of bytes, which can be read.
+/// A copy of bytes that can be read.
 pub fn copy_of(from: u64, n: u64, w: &World) -> Result<Vec<u8>, OutOfMemory>
     requires { is_readable w.now.now.soft.memory from n ≡ true }
     ensures bytes { IfOk result (λ copy. copy.items ≡ bytes_of w.now.now.soft.memory from n) }

@@ -22,12 +22,12 @@ fn first_block(rt: HostRuntime) -> Result<(), Fail> {
     from_start(&rt, &steps)
 }
 
-/// Blocks of no bytes, of as many as there may be, and of one more; and what each costs.
+/// Blocks of no bytes, of the most bytes, and of one byte more; and what each costs.
 #[test]
 fn sizes_of_blocks(rt: HostRuntime) -> Result<(), Fail> {
     let steps = [
         Step::Allocates(0, DONE, 0x1_0000_0060, 1),
-        // it takes 16 addresses all the same
+        // a block of no bytes still takes 16 addresses
         Step::Allocates(1, DONE, 0x1_0000_0070, 2),
         Step::Allocates(64, DONE, 0x1_0000_0080, 2),
         Step::Allocates(65, DONE, 0x1_0000_00c0, 3),
@@ -45,18 +45,18 @@ fn places_of_blocks(rt: HostRuntime) -> Result<(), Fail> {
     let steps = [
         Step::Calls(Service::AllocatePool, &[0, 24, 0], INVALID),
         Step::Calls(Service::AllocatePool, &[0, 67_108_865, 0], INVALID),
-        // a table; nowhere; 7 bytes of the stack
+        // in a table, in no segment, and with only 7 bytes of the stack left
         Step::Calls(Service::AllocatePool, &[0, 67_108_865, TABLE], TRAPPED),
         Step::Calls(Service::AllocatePool, &[0, 24, BAD], TRAPPED),
         Step::Calls(Service::AllocatePool, &[0, 24, STACK_END - 7], TRAPPED),
-        // none was made
+        // no block was made
         Step::Calls(Service::AllocatePool, &[0, 1, PLACE], DONE),
         Step::Words(PLACE, &[0x1_0000_0060]),
     ];
     from_start(&rt, &steps)
 }
 
-/// What FreePool takes.
+/// Which addresses FreePool accepts.
 #[test]
 fn freed_blocks(rt: HostRuntime) -> Result<(), Fail> {
     let steps = [
@@ -128,7 +128,7 @@ fn filled_bytes(rt: HostRuntime) -> Result<(), Fail> {
     from_start(&rt, &steps)
 }
 
-/// The task priority level: what sets it, and what is answered.
+/// The task priority level: what changes it, and what is answered.
 #[test]
 fn levels(rt: HostRuntime) -> Result<(), Fail> {
     let steps = [

@@ -1,4 +1,4 @@
--- A child that was added with the path and the option ROM of its function is made.
+-- To add a child with the path and the option ROM of its function is to make it.
 use Rattle.std.proofs.Common.{◌≡◌, ℕ, Bool, List, ap, ◌∙◌}
 use Rattle.world_model.specs.World.{State, on_soft}
 use Rattle.world_model.specs.NewChild.{child_added, child_made, has_rom, path_below}

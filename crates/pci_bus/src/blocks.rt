@@ -1,4 +1,4 @@
-//! The blocks of a child of the bus, beside its device path.
+//! The blocks of a child of the bus, except its device path.
 ghost use Rattle.std.specs.Prelude.{◌≡◌, ◌++◌, IfOk, OnOk, flat_map};
 ghost use Rattle.byteorder.specs.Endian.{little_bytes};
 ghost use Rattle.world_model.specs.NewChild.{override_block, pci_io_block};
@@ -58,7 +58,7 @@ fn number_bytes(alloc: Global, numbers: &[u64]) -> Result<Vec<u8>, OutOfMemory>
     Ok(bytes)
 }
 
-/// PCI I/O (UEFI 2.8, 14.4: EFI PCI I/O Protocol).
+/// The block of PCI I/O (UEFI 2.8, 14.4: EFI PCI I/O Protocol).
 ///
 /// # Errors
 ///
@@ -70,7 +70,7 @@ pub fn pci_io_block(alloc: Global) -> Result<Vec<u8>, OutOfMemory>
     number_bytes(alloc, &PCI_IO)
 }
 
-/// The bus specific driver override (UEFI 2.8, 11.6): the address of GetDriver.
+/// The block of the bus specific driver override (UEFI 2.8, 11.6): the address of GetDriver.
 ///
 /// # Errors
 ///

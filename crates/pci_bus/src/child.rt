@@ -32,7 +32,7 @@ fn root_uid(w: &World, controller: Handle) -> u32
     }
 }
 
-/// Makes a block of the firmware, for which there is room, and answers its address.
+/// Makes a block of the firmware and answers its address. There is room for the block.
 ///
 /// # Errors
 ///
@@ -51,7 +51,7 @@ fn add_block(w: &mut World, bytes: Vec<u8>) -> Result<u64, OutOfMemory>
     }
 }
 
-/// Installs an interface of the firmware, which nothing refuses, and answers its handle.
+/// Installs an interface of the firmware and answers its handle. Nothing refuses the interface.
 ///
 /// # Errors
 ///
@@ -122,7 +122,7 @@ fn add_override(w: &mut World, handle: Handle, has_rom: bool) -> Result<(), OutO
 }
 
 /// Adds the interfaces of a new child on a new handle: its device path, PCI I/O and, if its function
-/// has an option ROM, the bus specific driver override. No limit is in the way.
+/// has an option ROM, the bus specific driver override. No limit is met.
 ///
 /// # Errors
 ///
@@ -142,7 +142,7 @@ fn add_interfaces(w: &mut World, path: Vec<u8>, has_rom: bool) -> Result<Handle,
     Ok(handle)
 }
 
-/// Adds a child, which passes no limit: its interfaces on a new handle, and its function.
+/// Adds a child: its interfaces on a new handle, and its function. No limit is met.
 ///
 /// # Errors
 ///
@@ -164,13 +164,14 @@ fn add_child(w: &mut World, path: Vec<u8>, has_rom: bool, f: u32) -> Result<Hand
 /// and answers its handle (UEFI 2.8, 11.1: EFI Driver Binding Protocol, Start). The handle is a new
 /// one. It has a device path, with a PCI node for each bridge on the way and for the function; then
 /// PCI I/O; and then, if the function has an option ROM, the bus specific driver override. The
-/// firmware owns all three. From then on the function is that of the handle's PCI I/O.
+/// firmware owns all three. From then on the handle's PCI I/O is that of function `f`.
 ///
 /// # Errors
 ///
-/// `Full` if 4,096 handles are live or the next handle number is 2^62, or if with the blocks of the
-/// child all blocks would have more than 67,108,864 bytes, be more than 65,536, or pass 2^62. Then
-/// all is as before. `OutOfMemory` if there is no memory. `NotThere` never comes.
+/// `Full` if 4,096 handles are live or the next handle number is 2^62. `Full` also if with the
+/// blocks of the child there would be more than 65,536 blocks, or they would have more than
+/// 67,108,864 bytes in all, or would pass the address 2^62. After `Full` everything is as before.
+/// `OutOfMemory` if there is no memory. `NotThere` never comes.
 pub fn make_child(w: &mut World, controller: Handle, f: u32) -> Result<Handle, WorldFault>
     ensures answer { Gives result (child_answer controller f w.old.now) }
     ensures now { OnOk result (w.new.now ≡ child_made controller f w.old.now) }

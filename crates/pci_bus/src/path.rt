@@ -12,8 +12,8 @@ use std::alloc::Global;
 /// The End node of a device path (UEFI 2.8, 10.3.1).
 const END_NODE: [u8; 4] = [0x7F, 0xFF, 0x04, 0x00];
 
-/// The PCI nodes on the way to function `f`, if the way has at most so many: those of the bridges, and
-/// that of the function.
+/// The PCI nodes on the way to function `f`, at most the last `most` of them: those of the bridges,
+/// and then that of the function.
 ///
 /// # Errors
 ///
@@ -29,7 +29,7 @@ fn way_nodes(alloc: Global, board: &Board, most: u32, f: u32) -> Result<Vec<u8>,
     longer_way(alloc, board, most - 1, f)
 }
 
-/// The same if the way may have one more.
+/// The same if at least one node may be taken: at most the last `less + 1` of them.
 #[cycle(way)]
 #[tactic(auto, unfolding(pci_model::specs::Ways::way_within), using(crate::proofs::Ways::nodes_more))]
 fn longer_way(alloc: Global, board: &Board, less: u32, f: u32) -> Result<Vec<u8>, OutOfMemory>
@@ -44,7 +44,7 @@ fn longer_way(alloc: Global, board: &Board, less: u32, f: u32) -> Result<Vec<u8>
     Ok(nodes)
 }
 
-/// The PCI nodes on the way to a bridge, if there is one.
+/// The PCI nodes on the way to a bridge, or none if there is no bridge.
 #[cycle(way)]
 fn bridge_nodes(
     alloc: Global,
@@ -61,7 +61,7 @@ fn bridge_nodes(
     }
 }
 
-/// The device path of function `f` below the root bridge with a _UID.
+/// The device path of function `f` below the root bridge with this _UID.
 ///
 /// # Errors
 ///

@@ -1,4 +1,4 @@
-//! What the PCI bus driver says to a controller and to a remaining device path (UEFI 2.8, 14.3.2.1:
+//! What the PCI bus driver answers for a controller and a remaining device path (UEFI 2.8, 14.3.2.1:
 //! Driver Binding Protocol for PCI Bus Drivers).
 ghost use Rattle.std.specs.Prelude.{ℕ, ◌≡◌, ◌∷◌, [], IfOk, Some, length, true, is_some};
 ghost use Rattle.std.specs.Option.{option_map_or};
@@ -54,7 +54,8 @@ fn path_choice(w: &World, path: u64) -> Option<PathChoice>
     node_choice(w.bytes(path, PCI_SIZE))
 }
 
-/// Why root bridge I/O of a controller can't be opened BY_DRIVER by the bus driver, if it can't.
+/// The status of the bus driver's open of a controller's root bridge I/O BY_DRIVER, if that open is
+/// refused.
 fn root_refusal(w: &World, controller: Handle) -> Option<Status>
     ensures { result ≡ refusal_by (root_verdict controller w.now.now.soft) }
 {
@@ -76,8 +77,8 @@ fn root_refusal(w: &World, controller: Handle) -> Option<Status>
 /// What Supported of the PCI bus driver answers (UEFI 2.8, 11.1:
 /// EFI_DRIVER_BINDING_PROTOCOL.Supported()): UNSUPPORTED if the controller has no root bridge I/O of
 /// the firmware, or if the path is neither NULL, nor an End node, nor a PCI node that can be read;
-/// then ALREADY_STARTED or ACCESS_DENIED if open records of root bridge I/O keep the bus driver out;
-/// and otherwise SUCCESS. Takes no memory.
+/// ALREADY_STARTED or ACCESS_DENIED if open records of root bridge I/O keep the bus driver out; and
+/// otherwise SUCCESS. Takes no memory.
 #[tactic(auto, unfolding(driver_model::specs::BusSupport::functions_chosen))]
 pub fn bus_supported(w: &World, controller: Handle, path: u64) -> Status
     ensures { result ≡ support_status (functions_chosen controller path w.now.now) }
@@ -94,7 +95,7 @@ pub fn bus_supported(w: &World, controller: Handle, path: u64) -> Status
     }
 }
 
-/// The function at a place, if there is one.
+/// A list of one function, or an empty list if there is none.
 fn one_function(alloc: Global, number: Option<u32>) -> Result<Vec<u32>, OutOfMemory>
     ensures { IfOk result (λ numbers. numbers.items ≡ option_map_or (λ number. number ∷ []) number []) }
 {
@@ -120,10 +121,11 @@ fn chosen(w: &World, choice: PathChoice, bus: u8) -> Result<Vec<u32>, OutOfMemor
 }
 
 /// The functions for which Start of the PCI bus driver makes children, in their order (UEFI 2.8,
-/// 11.1: EFI_DRIVER_BINDING_PROTOCOL.Start()): for a NULL path all on the bus of the root bridge and
-/// below it, by device and then by function number, each bridge followed by those below it; for an
-/// End node none; for a PCI node the one that it names on the bus itself, if there is one. The
-/// controller has root bridge I/O of the firmware, and the path is one of these.
+/// 11.1: EFI_DRIVER_BINDING_PROTOCOL.Start()). For a NULL path these are all functions on the bus of
+/// the root bridge and below it, by device and then by function number, each bridge followed by
+/// those below it. For an End node there are none. For a PCI node it is the one that the node names
+/// on the bus itself, if there is one. The controller has root bridge I/O of the firmware, and the
+/// path is one of these three.
 ///
 /// # Errors
 ///

@@ -80,7 +80,7 @@ fn children_of_a_root_in(rt: &(impl AllocGlobal + Abort), world: &mut World) -> 
     Ok(())
 }
 
-/// What is known of children and of option ROMs.
+/// What the world knows of children and of option ROMs.
 #[test]
 fn children_are_known(rt: HostRuntime) -> Result<(), Fail> {
     let mut world = on_a_bridge(&rt)?;

@@ -1,4 +1,4 @@
-//! The table of the functions of PCI I/O, and how a call goes.
+//! The table of the functions of PCI I/O, and how a call is served.
 ghost use Rattle.std.specs.Prelude.{◌≡◌, ◌≤◌, ◌%◌, ◌^◌, IfOk, OnOk, false, true};
 ghost use Rattle.service_thunks.specs.Arguments.{most_arguments};
 ghost use Rattle.service_model.specs.Allowed.{is_allowed};
@@ -34,7 +34,7 @@ fn slots_of(s: Service) -> u8
     }
 }
 
-/// Whether the price of a function names an argument.
+/// Whether the price of a function depends on an argument.
 fn is_by_argument(s: Service) -> bool
     requires { is_boot_service s ≡ false }
     ensures { result ≡ (row s).by_argument }
@@ -42,7 +42,7 @@ fn is_by_argument(s: Service) -> bool
     !matches!(s, Service::GetLocation | Service::Attributes)
 }
 
-/// The price of so many elements.
+/// The price of a transfer of `count` elements.
 fn transfer_price(count: u64) -> u64
     ensures { result ≡ transfer_price count }
 {
@@ -93,7 +93,7 @@ fn change_for(s: Service, c: &Caller, a: &[u64; 16], w: &World) -> Result<Change
     }
 }
 
-/// The same change, which can be applied.
+/// The same change, and the fact that it can be applied.
 fn allowed_change(s: Service, c: &Caller, a: &[u64; 16], w: &World) -> Result<Change, Stop>
     requires { is_boot_service s ≡ false }
     ensures value { result ≡ (row s).rest c.now a.now w.now.now }
@@ -103,9 +103,9 @@ fn allowed_change(s: Service, c: &Caller, a: &[u64; 16], w: &World) -> Result<Ch
     change_for(s, c, a, w)
 }
 
-// ---- how a call goes
+// ---- how a call is served
 
-/// Reads the arguments of a function, and does its row's work.
+/// Reads the arguments of a function, and does what its row says.
 fn work(s: Service, c: &Caller, w: &World) -> Result<Change, Stop>
     requires { is_boot_service s ≡ false }
     ensures value { result ≡ with_arguments (row s) c.now w.now.now }
@@ -115,7 +115,7 @@ fn work(s: Service, c: &Caller, w: &World) -> Result<Change, Stop>
     allowed_change(s, c, &a, w)
 }
 
-/// A function whose price names no argument.
+/// Serves a function whose price does not depend on an argument: the price is spent first.
 fn serve_priced_first(w: &mut World, s: Service, c: &Caller) -> Result<Served, OutOfMemory>
     requires { is_boot_service s ≡ false }
     ensures now { IfOk result (λ answer. priced_first (row s) c.now w.old.now ≡ (answer, w.new.now)) }
@@ -128,7 +128,7 @@ fn serve_priced_first(w: &mut World, s: Service, c: &Caller) -> Result<Served, O
     end_row(change, w)
 }
 
-/// A function with these arguments, which its price names.
+/// Serves a function with these arguments. Its price depends on one of them.
 fn serve_with(w: &mut World, s: Service, c: &Caller, a: &[u64; 16]) -> Result<Served, OutOfMemory>
     requires { is_boot_service s ≡ false }
     ensures now { IfOk result (λ answer. with_price ((row s).price a.now) ((row s).rest c.now a.now) w.old.now ≡ (answer, w.new.now)) }
@@ -141,7 +141,7 @@ fn serve_with(w: &mut World, s: Service, c: &Caller, a: &[u64; 16]) -> Result<Se
     end_row(change, w)
 }
 
-/// A function whose price names an argument.
+/// Serves a function whose price depends on an argument: the arguments are read first.
 fn serve_priced_after(w: &mut World, s: Service, c: &Caller) -> Result<Served, OutOfMemory>
     requires { is_boot_service s ≡ false }
     ensures now { IfOk result (λ answer. priced_after (row s) c.now w.old.now ≡ (answer, w.new.now)) }
@@ -170,9 +170,10 @@ fn serve_row(w: &mut World, s: Service, c: &Caller) -> Result<Served, OutOfMemor
 /// Pci.Read, Pci.Write, GetLocation and Attributes; the arguments are on the caller's stack, 8 bytes each
 /// from `c.sp` on.
 ///
-/// The first four read their arguments, and then their price is spent, 4 units and one for each element, up
-/// to 65,536; the other two spend 4 units first. Then come the statuses and traps of the function in their
-/// order. What is written to a device stays, whatever is undone. The answer is never `Again`.
+/// For the first four the arguments are read, and then the price is spent: 4 units, and one for each
+/// element, up to 65,536. For the other two the price of 4 units is spent first. Then come the statuses and
+/// traps of the function in their order. What is written to a device stays, whatever is undone later. The
+/// answer is never `Again`.
 ///
 /// # Errors
 ///

@@ -40,7 +40,7 @@ fn element_size(width: u32) -> Result<u64, Stop>
     Ok(size_of(width))
 }
 
-/// How many bytes an element of a width that is built has.
+/// How many bytes an element has, for a width that is built.
 fn size_of(width: u32) -> u64
     requires { width ≤ 3 }
     ensures { result ≡ 2 ^ width }
@@ -53,7 +53,7 @@ fn size_of(width: u32) -> u64
     }
 }
 
-/// How many bytes so many elements have, which can be written from an address on.
+/// How many bytes `count` elements have. They must be writable from an address on.
 ///
 /// # Errors
 ///
@@ -70,7 +70,7 @@ fn writable_bytes(count: u64, size: u64, at: u64, w: &World) -> Result<u64, Stop
     Ok(n)
 }
 
-/// How many bytes so many elements have, which can be read from an address on.
+/// How many bytes `count` elements have. They must be readable from an address on.
 ///
 /// # Errors
 ///
@@ -113,10 +113,10 @@ fn in_device(function: u32, space: Space, at: u64, n: u64, w: &World) -> Result<
 ///
 /// # Errors
 ///
-/// In this order: `Status` with INVALID_PARAMETER if `this` is no PCI I/O of a child of the bus, if the
-/// buffer is NULL, or if the width is over 11, and with UNSUPPORTED if it is over 3; `Trap` with `Memory`
-/// if the buffer can't be written; `Status` with UNSUPPORTED if there is no such BAR, or if an element
-/// lies past its end.
+/// In this order: `Status` with INVALID_PARAMETER if `this` is not the PCI I/O of a child of the bus, if
+/// the buffer is NULL, or if the width is over 11, and with UNSUPPORTED if it is over 3; `Trap` with
+/// `Memory` if the buffer can't be written; `Status` with UNSUPPORTED if there is no such BAR, or if an
+/// element lies past its end.
 pub fn read_device(
     this: u64,
     width: u32,
@@ -175,7 +175,7 @@ pub fn write_device(
 
 // ---- GetLocation
 
-/// Where a function is.
+/// Where a function is: its bus, its device and its function number.
 ///
 /// # Errors
 ///
@@ -192,8 +192,8 @@ fn location(function: u32, w: &World) -> Result<(u8, u8, u8), Stop>
 ///
 /// # Errors
 ///
-/// In this order: `Status` with INVALID_PARAMETER if `this` is no PCI I/O of a child of the bus, or if a
-/// place is NULL; `Trap` with `Memory` if one can't be written.
+/// In this order: `Status` with INVALID_PARAMETER if `this` is not the PCI I/O of a child of the bus, or
+/// if a place is NULL; `Trap` with `Memory` if one can't be written.
 pub fn get_location(
     this: u64,
     segment: u64,
@@ -244,14 +244,14 @@ fn attributes_in(value: u64) -> u64
     0x100 * (value % 8)
 }
 
-/// A command register with other attributes.
+/// A command register with its attributes replaced by these.
 fn with_attributes(bits: u64, value: u64) -> u64
     ensures { result ≡ with_attributes bits value }
 {
     8 * (value / 8) + bits / 0x100 % 8
 }
 
-/// Attributes that are supported are set, or added to those that are there, or removed from them.
+/// The attributes after an operation: the given ones are set, added to those of now, or removed from them.
 fn attributes_after(operation: u32, bits: u64, now: u64) -> u64
     requires { bits ≤ 0x700 }
     ensures { result ≡ attributes_after operation bits now }
@@ -263,7 +263,7 @@ fn attributes_after(operation: u32, bits: u64, now: u64) -> u64
     }
 }
 
-/// Attributes are stored.
+/// Stores attributes.
 fn store_attributes(out: u64, bits: Result<u64, Stop>, w: &World) -> Result<Change, Stop>
     ensures { result ≡ store_attributes out bits w.now.now }
 {
@@ -289,7 +289,7 @@ fn attributes_now(function: u32, w: &World) -> Result<u64, Stop>
     Ok(attributes_in(value))
 }
 
-/// Attributes are changed.
+/// Changes attributes.
 fn change_attributes(function: u32, operation: u32, bits: u64, w: &World) -> Result<Change, Stop>
     ensures { result ≡ change_attributes function operation bits w.now.now }
 {
@@ -302,7 +302,7 @@ fn change_attributes(function: u32, operation: u32, bits: u64, w: &World) -> Res
     })
 }
 
-/// The attributes of a function are stored or changed.
+/// Stores or changes the attributes of a function.
 fn attributes_of(
     function: u32,
     operation: u32,
@@ -319,15 +319,15 @@ fn attributes_of(
     }
 }
 
-/// Attributes: the attributes of a function, of which 0x100 is I/O, 0x200 memory and 0x400 bus master,
-/// are stored (operation 0), set (1), added (2) or removed (3), or those that are supported are stored
-/// (4). Operations 1 to 3 do not look at `out`, and 0 and 4 do not look at `bits`.
+/// Attributes: the attributes of a function, of which 0x100 is I/O, 0x200 memory and 0x400 bus master, are
+/// stored (operation 0), set (1), added (2) or removed (3), or the supported attributes are stored (4).
+/// Operations 1 to 3 do not look at `out`, and 0 and 4 do not look at `bits`.
 ///
 /// # Errors
 ///
-/// In this order: `Status` with INVALID_PARAMETER if `this` is no PCI I/O of a child of the bus, if the
-/// operation is over 4, or if `out` is NULL; `Trap` with `Memory` if `out` can't be written; `Status` with
-/// UNSUPPORTED if an attribute is not supported.
+/// In this order: `Status` with INVALID_PARAMETER if `this` is not the PCI I/O of a child of the bus, if
+/// the operation is over 4, or if `out` is NULL; `Trap` with `Memory` if `out` can't be written; `Status`
+/// with UNSUPPORTED if an attribute is not supported.
 pub fn attributes(this: u64, operation: u32, bits: u64, out: u64, w: &World) -> Result<Change, Stop>
     ensures { result ≡ attributes this operation bits out w.now.now }
 {

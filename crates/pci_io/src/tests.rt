@@ -20,12 +20,12 @@ const SLOTS: u64 = 0x81_FF80;
 
 const PLACE: u64 = 0x81_8000;
 
-/// An address at which nothing is, and one that can only be read.
+/// An address with nothing at it, and one that can only be read.
 const BAD: u64 = 0x1000;
 
 const TABLE: u64 = 0x1_0000;
 
-/// PCI I/O of the child, and an address at which no PCI I/O is.
+/// PCI I/O of the child, and an address with no PCI I/O at it.
 const THIS: u64 = 0x1_0000_0030;
 
 const OTHER: u64 = THIS + 8;
@@ -53,7 +53,7 @@ const TRAPPED: Answer = Answer::Trap(Cause::Memory);
 type Call = ([u64; 6], Answer);
 
 /// The board of a root bridge and a function with 64 bytes at BAR 1, with a child for the function, a
-/// stack of level 1, and so many units.
+/// stack of level 1, and `units` units.
 fn with_a_child(rt: &(impl AllocGlobal + Abort), units: u32) -> Result<World, Fail>
     ensures { IfOk result (λ world. world.marks ≡ []) }
 {
@@ -121,7 +121,7 @@ fn answered(world: &mut World, s: Service, caller: &Caller) -> Result<Served, Ou
     pci_serve(world, s, caller)
 }
 
-/// A function called with the arguments at an address.
+/// Calls a function with the arguments at an address.
 fn called_at(world: &mut World, s: Service, sp: u64) -> Result<Answer, Fail>
     requires { is_boot_service s ≡ false }
     ensures marks { OnOk result (world.new.marks ≡ world.old.marks) }
@@ -139,7 +139,7 @@ fn called_at(world: &mut World, s: Service, sp: u64) -> Result<Answer, Fail>
     }
 }
 
-/// A function called with these arguments.
+/// Calls a function with these arguments.
 fn call(world: &mut World, s: Service, arguments: &[u64; 6]) -> Result<Answer, Fail>
     requires { is_boot_service s ≡ false }
     ensures marks { OnOk result (world.new.marks ≡ world.old.marks) }
@@ -179,28 +179,28 @@ fn config_space_is_read(rt: HostRuntime) -> Result<(), Fail> {
     Ok(())
 }
 
-/// Mem.Read, by what is wrong: two at once, of which the earlier answers, and each alone.
+/// Mem.Read with what is wrong: two things at once, of which the earlier answers, and each alone.
 const READS: [Call; 24] = [
-    // `This` before all
+    // `This` is checked before anything else
     ([OTHER, 5, 1, 0, 1, PLACE], INVALID),
     ([OTHER, 0, 1, 0, 1, BAD], INVALID),
     ([OTHER, 0, 2, 0, 1, PLACE], INVALID),
     ([OTHER, 0, 1, 64, 1, PLACE], INVALID),
-    // a NULL buffer before the width that is not built, the BAR and its end
+    // a NULL buffer answers before a width that is not built, the BAR and its end
     ([THIS, 5, 1, 0, 1, 0], INVALID),
     ([THIS, 0, 2, 0, 1, 0], INVALID),
     ([THIS, 0, 1, 64, 1, 0], INVALID),
-    // a width over 11 before the buffer's bytes, the BAR and its end
+    // a width over 11 answers before the buffer's bytes, the BAR and its end
     ([THIS, 12, 1, 0, 1, BAD], INVALID),
     ([THIS, 12, 2, 0, 1, PLACE], INVALID),
     ([THIS, 12, 1, 64, 1, PLACE], INVALID),
-    // a width that is not built before the buffer's bytes
+    // a width that is not built answers before the buffer's bytes
     ([THIS, 4, 1, 0, 1, BAD], UNSUPPORTED),
     ([THIS, 11, 1, 0, 1, BAD], UNSUPPORTED),
-    // the buffer's bytes before the BAR and its end
+    // the buffer's bytes answer before the BAR and its end
     ([THIS, 0, 2, 0, 1, BAD], TRAPPED),
     ([THIS, 0, 1, 64, 1, BAD], TRAPPED),
-    // each alone: a table can't be written, nor can 2^64 bytes
+    // each alone: neither a table nor 2^64 bytes can be written
     ([THIS, 0, 1, 0, 1, TABLE], TRAPPED),
     ([THIS, 3, 1, 0, 1 << 61, PLACE], TRAPPED),
     ([THIS, 0, 2, 0, 1, PLACE], UNSUPPORTED),
@@ -261,7 +261,7 @@ fn writes_are_refused_in_order_in(
     Ok(())
 }
 
-/// GetLocation: two that are wrong at once, and each alone.
+/// GetLocation with two things wrong at once, and with each alone.
 const LOCATIONS: [Call; 7] = [
     ([OTHER, BAD, PLACE, PLACE, PLACE, 0], INVALID),
     ([THIS, BAD, PLACE, PLACE, 0, 0], INVALID),
@@ -301,7 +301,7 @@ fn location_has_four_numbers_in(
     Ok(())
 }
 
-/// Places that overlap are stored in the order of the arguments.
+/// Numbers whose places overlap are stored in the order of the arguments.
 #[test]
 fn location_at_one_place(rt: HostRuntime) -> Result<(), Fail> {
     let mut world = with_a_child(&rt, 100)?;
@@ -311,7 +311,7 @@ fn location_at_one_place(rt: HostRuntime) -> Result<(), Fail> {
     Ok(())
 }
 
-/// Attributes, one after the other: what it answers, and the command register after it.
+/// Calls of Attributes, one after the other: what each answers, and the command register after it.
 const ATTRIBUTES: [(u64, u64, u64, Answer, u64); 15] = [
     // operation, bits, out
     (4, 0xFFFF, PLACE, DONE, 0),
@@ -321,14 +321,14 @@ const ATTRIBUTES: [(u64, u64, u64, Answer, u64); 15] = [
     (0, 0xFFFF, PLACE + 8, DONE, 1),
     // the operation has 32 bits
     ((1 << 32) | 1, 0x200, 0, DONE, 2),
-    // an operation over 4 before all else
+    // an operation over 4 answers before anything else
     (5, 0x800, 0, INVALID, 2),
     (5, 0x800, BAD, INVALID, 2),
-    // NULL and what can't be written, where attributes are stored
+    // NULL and an address that can't be written, when attributes are stored
     (0, 0, 0, INVALID, 2),
     (4, 0x800, 0, INVALID, 2),
     (0, 0, TABLE, TRAPPED, 2),
-    // an attribute that is not supported, where they are changed
+    // an attribute that is not supported, when attributes are changed
     (1, 0x701, BAD, UNSUPPORTED, 2),
     (2, 0x8000, 0, UNSUPPORTED, 2),
     (3, 1 << 63, 0, UNSUPPORTED, 2),
@@ -375,7 +375,7 @@ fn elements_have_a_price(rt: HostRuntime) -> Result<(), Fail> {
     Ok(())
 }
 
-/// A price that names an argument is known only after the arguments are read, and another is spent
+/// A price that depends on an argument is spent after the arguments are read, and any other price
 /// before.
 #[test]
 fn arguments_are_read_in_turn(rt: HostRuntime) -> Result<(), Fail> {
@@ -406,7 +406,7 @@ fn make_another(world: &mut World) -> Result<Handle, Fail>
     Ok(make_child(world, Handle::bus_driver().next(), 0)?)
 }
 
-/// The child is not there, and the byte in BAR 1 is.
+/// The child is gone, and the byte in BAR 1 is still there.
 fn only_byte_stays(rt: &impl Abort, world: &mut World, child: Handle) -> Result<(), Fail> {
     assert_eq!(rt; world.child_function(child.get()), None);
     assert_eq!(rt; world.db().is_live(child.get()), false);
@@ -417,7 +417,7 @@ fn only_byte_stays(rt: &impl Abort, world: &mut World, child: Handle) -> Result<
     Ok(())
 }
 
-/// An undo takes a child back, and not what was written to a device.
+/// An undo removes a child, but not what was written to a device.
 #[test]
 fn undo_leaves_devices(rt: HostRuntime) -> Result<(), Fail> {
     let mut world = with_a_child(&rt, 100)?;
@@ -436,7 +436,7 @@ fn undo_leaves_devices_in(rt: &(impl AllocGlobal + Abort), world: &mut World) ->
     only_byte_stays(rt, world, second)
 }
 
-/// A handle whose PCI I/O was uninstalled is no child, also if another PCI I/O is installed there.
+/// A handle whose PCI I/O was uninstalled is not a child, even if another PCI I/O is installed on it.
 #[test]
 fn uninstalled_pci_io_is_none(rt: HostRuntime) -> Result<(), Fail> {
     let mut world = with_a_child(&rt, 100)?;

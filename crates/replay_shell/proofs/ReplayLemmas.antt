@@ -1,4 +1,4 @@
--- How a replay goes on by a command.
+-- How a replay goes on after a command.
 use Rattle.std.proofs.Common.{inl, inr, ◌≡◌, ◌≢◌, ℕ, zero, suc, ◌+◌, ◌<◌, ◌≤◌, true, List, [], ◌∷◌, ◌++◌, length, take, drop, refl, sym, ap, ◌∙◌, arith, append_assoc, length-append, get_or, add-one}
 use Rattle.std.specs.Prelude.{Option, Some, None, Result, Ok, Err, slice_get}
 use Rattle.std.specs.List.{concat}
@@ -18,17 +18,17 @@ use Rattle.replay_shell.specs.declared.replay.Stop.{Stop}
 use Rattle.replay_shell.specs.declared.replay.Stop.TheVariants.{Shelf, Sink, Memory}
 use Rattle.replay_shell.specs.Replay.{Replays, TakesTurn, TakesTurns, text_of}
 
--- after the first commands the machine has the other texts before it, and their texts were taken
+-- after the first commands, their texts were taken, and the texts of the others are those of the machine from there on
 pub record SoFar (files : Files) (first : MachineView) (commands : List Command) (done : ℕ) (machine : MachineView) (old now : Option (List ℕ)) : Type 0 where
   pub left : texts files machine (drop done commands) ≡ drop done (texts files first commands)
   pub taken : now ≡ with_bytes old (concat (take done (texts files first commands)))
 
--- no bytes more
+-- to take no more bytes changes nothing
 pub with_bytes-nil : (taken : Option (List ℕ)) → with_bytes taken [] ≡ taken
 with_bytes-nil None = refl
 with_bytes-nil (Some before) = ap Some (append-nil before)
 
--- a list of lists with one at a place
+-- a list of lists, joined up to and including the one at a place
 concat-take : (xss rest : List (List ℕ)) (i : ℕ) (x : List ℕ) → drop i xss ≡ x ∷ rest → concat (take (suc i) xss) ≡ concat (take i xss) ++ x
 concat-take [] rest zero x h = absurd (cc)
 concat-take [] rest (suc i) x h = absurd (cc)
@@ -60,7 +60,7 @@ texts-here : (files : Files) (first : MachineView) (commands : List Command) (i 
     → drop i (texts files first commands) ≡ text_of files machine command ∷ texts files (exec command files machine).1 (drop (suc i) commands)
 texts-here files first commands i machine old now command so_far there = sym so_far.left ∙ ap (texts files machine) there.here
 
--- one command more
+-- one more command
 pub SoFar-more : (files : Files) (first : MachineView) (commands : List Command) (i : ℕ) (machine next : MachineView) (old now new : Option (List ℕ)) (command : Command) → SoFar files first commands i machine old now → IsAt commands i command
     → next ≡ (exec command files machine).1 → new ≡ with_bytes now (text_of files machine command) → SoFar files first commands (i + 1) next old new
 SoFar-more files first commands i machine next old now new command so_far there went wrote =
@@ -129,11 +129,11 @@ stopped-here files first commands i machine old now new command Sink so_far ther
 
 -- ---- the opening, and then the commands
 
--- more after a text that was taken
+-- more bytes are taken after a text
 after-text : (old mid new : Option (List ℕ)) (text more : List ℕ) → mid ≡ with_bytes old text → new ≡ with_bytes mid more → new ≡ with_bytes old (text ++ more)
 after-text old mid new text more before later = later ∙ ap (λ (t : Option (List ℕ)). with_bytes t more) before ∙ with_bytes-again old text more
 
--- a prefix after a text is one of both
+-- a prefix taken after a text is a prefix of both texts together
 after-prefix : (old mid new : Option (List ℕ)) (text more : List ℕ) (n : ℕ) → mid ≡ with_bytes old text → new ≡ with_bytes mid (take n more) → new ≡ with_bytes old (take (length text + n) (text ++ more))
 after-prefix old mid new text more n before later = after-text old mid new text (take n more) before later ∙ ap (with_bytes old) (sym (take-past-prefix text more n))
 
@@ -144,13 +144,13 @@ notes-stopped files script old new took =
     let replies = concat (reply_texts files script) in
     (took.0, omega (arith, took.1, length-append notes replies), took.2 ∙ ap (with_bytes old) (sym (take-append-le took.0 notes replies took.1)))
 
--- if nothing was taken before
+-- how a replay ends if nothing was taken
 pub nothing-taken : (files : Files) (script : Script) (stop : Stop) (old : Option (List ℕ)) → stop ≢ Sink → Replays files script (Err stop) old old
 nothing-taken files script Shelf old other = inl refl
 nothing-taken files script Memory old other = (0, sym (with_bytes-nil old))
 nothing-taken files script Sink old other = absurd (other refl)
 
--- how it ends as the commands do
+-- how a replay ends if the commands end like this
 commands-stopped : (files : Files) (script : Script) (stop : Stop) (old mid new : Option (List ℕ)) → mid ≡ with_bytes old (opening_text files script)
     → TakesTurns files (booted files (board_of script.board)) script.commands (Err stop) mid new → Replays files script (Err stop) old new
 commands-stopped files script Shelf old mid new opened took =
@@ -172,7 +172,7 @@ pub commands-end : (files : Files) (script : Script) (result : Result (Unit {0})
 commands-end files script (Ok done) old mid new opened took = commands-done files script old mid new opened took
 commands-end files script (Err stop) old mid new opened took = commands-stopped files script stop old mid new opened took
 
--- if a replay stopped, so did the answer that is its report
+-- if a replay stopped, so did the answer whose text is its report
 pub EndsWith-stopped : (files : Files) (script : Script) (stop : Stop) (old new : Option (List ℕ)) → Replays files script (Err stop) old new → EndsWith (answer 0 (report files script)) files script (Err stop) old new
 EndsWith-stopped files script Shelf old new h = h
 EndsWith-stopped files script Sink old new h = h

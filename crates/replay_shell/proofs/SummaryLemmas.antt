@@ -28,18 +28,18 @@ pub record IsCalm (shelf : ShelfInMemory) : Type 0 where
   pub failing_reads : shelf.failing_reads ≡ []
   pub faults : shelf.faults ≡ 0
 
--- it does not fail
+-- such a shelf does not fail
 none_rises : (old new : ShelfInMemory) → IsCalm old → IsLater old new → Rose old.faults new.faults → ⊥
 none_rises old new calm later rose =
     let same : new.faults ≡ old.faults = later.faults calm.failing_reads in
     let none : old.faults ≡ 0 = calm.faults in
     elim rose [ inl more ↦ omega arith | inr last ↦ omega arith ]
 
--- and stays so
+-- and it stays one that never fails
 pub calm_later : (old new : ShelfInMemory) → IsCalm old → IsLater old new → IsCalm new
 calm_later old new calm later = record { failing_reads = later.failing_reads ∙ calm.failing_reads; faults = later.faults calm.failing_reads ∙ calm.faults }
 
--- only memory runs out
+-- the only fault is that memory runs out
 pub only_memory : (fault : ExecFault) (old new : ShelfInMemory) → IsCalm old → IsLater old new → (fault ≡ ShelfFailed → Rose old.faults new.faults) → fault ≡ OutOfMemory
 only_memory ShelfFailed old new calm later failed = absurd (none_rises old new calm later (failed refl))
 only_memory OutOfMemory old new calm later failed = refl
@@ -49,7 +49,7 @@ memory_alone Shelf old new calm later other failed = absurd (none_rises old new 
 memory_alone Sink old new calm later other failed = absurd (other refl)
 memory_alone Memory old new calm later other failed = refl
 
--- ---- the budget of a command stays within the most
+-- ---- the budget of a command never passes the largest one
 
 most-between : (least most n : ℕ) → is_between least most n ≡ true → n ≤ most
 most-between least most n h = grind (arith, nat_tests)
@@ -74,8 +74,8 @@ exec-budget _ files machine legal h = h
 
 -- ---- the sums
 
--- after the first commands the machine goes on as the first one does, and the sums of the replies before and of those
--- that are left are the sums of all; they are not large
+-- After the first commands the machine comes to the same end as the first machine. The sums of the replies so far and
+-- of those that are left are the sums of all replies, and they are not large.
 pub record AddedUp (files : Files) (first : MachineView) (commands : List Command) (done : ℕ) (machine : MachineView) (totals : Totals) : Type 0 where
   pub last : machine_after files machine (drop done commands) ≡ machine_after files first commands
   pub commands_are : totals.commands + length (replies files machine (drop done commands)) ≡ length (replies files first commands)
@@ -107,7 +107,7 @@ legal-at (x ∷ xs) rest zero command legal here =
     ap has_legal_budgets (sym same) ∙ and-first (has_legal_budgets x) (list_all has_legal_budgets xs) legal
 legal-at (x ∷ xs) rest (suc i) command legal here = legal-at xs rest i command (and-second (has_legal_budgets x) (list_all has_legal_budgets xs) legal) here
 
--- one command more
+-- one more command
 pub AddedUp-more : (files : Files) (first : MachineView) (commands : List Command) (i : ℕ) (machine next : MachineView) (totals : Totals) (command : Command) (reply : Reply)
     → AddedUp files first commands i machine totals → IsAt commands i command → list_all has_legal_budgets commands ≡ true → exec command files machine ≡ (reply, next)
     → reply.units ≤ machine.command_budget → 64 * length reply.events ≤ reply.units

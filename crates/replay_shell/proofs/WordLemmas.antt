@@ -28,7 +28,7 @@ all_digits (byte ∷ word) h =
 own : IsNumeralModel (AllDigits 10) (digits_value 10)
 own = numerals_by_value (AllDigits 10) tells_digits
 
--- no digits at all are the only ones that are not read
+-- of such words only the empty one is not read
 empty : (size value : ℕ) → value < 10 ^ 3 → ¬ ((0 < size) × (value < 2 ^ 32)) → nat_eq size 0 ≡ true
 empty zero value small refused = refl
 empty (suc size) value small refused = absurd (refused (omega arith, omega arith))
@@ -44,7 +44,7 @@ numeral_by word (Err error) short digits small is =
     let none : nat_eq (length word) 0 ≡ true = empty (length word) (digits_value 10 word) small is in
     rw none refl
 
--- three digits at most are read as the number that they write
+-- at most three digits are read as the number that they write
 pub number_is : {E : Type 0} (word : List ℕ) (result : Result ℕ E) → length word ≤ 3 → list_all (is_digit 10) word ≡ true → ParsesUnsigned 32 10 word result → result_ok result ≡ numeral 10 word
 number_is word result short digits parsed =
     let all = all_digits word digits in

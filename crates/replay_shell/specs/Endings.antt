@@ -1,4 +1,4 @@
--- How the program may end: with its answer, or it gives up after a prefix of the answer's text was taken.
+-- How the program may end: it ends with its answer, or it gives up after a prefix of the answer's text was taken.
 use Rattle.std.specs.Prelude.{◌≡◌, ◌≤◌, ℕ, List, [], ◌++◌, Bool, true, false, ◌||◌, Option, Some, None, Result, Ok, Err, nat_eq, slice_get, take, ◌⊎◌}
 use Rattle.std.specs.List.{concat}
 use Rattle.std.specs.Option.{option_map_or}
@@ -17,14 +17,14 @@ use Rattle.replay_shell.specs.Headline.{Answer, Form, answer_of, check, disasm, 
 
 -- ---- what the words ask for
 
--- the form that a value of the code is: it has the name itself in place of a reference to it
+-- the form that a value of the code means: it has the name itself in place of a reference to it
 abbrev pub form_value : FormOfCode → Form
 form_value (Run name) = run name.now
 form_value (Check name) = check name.now
 form_value (Selftest size) = selftest size
 form_value (Disasm name) = disasm name.now
 
--- the size of a load is one that there is
+-- the size of a load, if the form has one, is from 1 to the largest
 abbrev pub HasSize : FormOfCode → Type 0
 HasSize (Run name) = Unit {0}
 HasSize (Check name) = Unit {0}
@@ -39,7 +39,7 @@ names_file (Some (check name)) = true
 names_file (Some (selftest size)) = false
 names_file (Some (disasm name)) = true
 
--- The script that is replayed over the files of the shelf, or an empty one if none is.
+-- The script that is replayed over the files of the shelf, or an empty script if none is replayed.
 
 abbrev pub no_script : Script
 no_script = record { board = []; commands = [] }
@@ -85,15 +85,15 @@ TakesPrefix old text new = (n : ℕ) × (new ≡ with_bytes old (take n text))
 abbrev pub reads_at : List Command → ℕ → Bool
 reads_at commands place = option_map_or reads_file (slice_get commands place) false
 
--- nothing was taken, or the notes of the opening and the texts of the replies to the commands before one
+-- nothing was taken; or the notes of the opening were taken, and the texts of the replies to the commands before one
 -- that reads a file
 abbrev pub StopsAtRead : Files → Script → Option (List ℕ) → Option (List ℕ) → Type 0
 StopsAtRead files script old new =
     (new ≡ old)
     ⊎ ((k : ℕ) × (reads_at script.commands k ≡ true) × (new ≡ with_bytes old (opening_text files script ++ concat (take k (reply_texts files script)))))
 
--- How the program ends if this is its answer and this its script: with the answer, or it gives up after a
--- prefix of the text was taken, which is not all of it if the sink failed.
+-- How the program ends if this is its answer and this its script. It ends with the answer, or it gives up after a
+-- prefix of the text was taken. That prefix is not the whole text if the sink failed.
 abbrev pub EndsWith : Answer → Files → Script → Result ℕ Stop → Option (List ℕ) → Option (List ℕ) → Type 0
 EndsWith a files script (Ok status) old new = (status ≡ a.status) × (new ≡ with_bytes old a.text)
 EndsWith a files script (Err Shelf) old new = StopsAtRead files script old new

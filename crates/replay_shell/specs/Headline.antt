@@ -1,5 +1,5 @@
--- What the program answers to its words over the files of a shelf: a status and the whole text that it
--- writes. The last definition, `answer_of`, is all of it.
+-- What the program answers to its words over the files of a shelf: a status and the whole text that it writes. The last
+-- definition, `answer_of`, puts all of it together.
 use Rattle.std.specs.Prelude.{ℕ, List, [], ◌∷◌, ◌++◌, Bool, true, false, Option, Some, None, bytes_eq, codes, count_by, length, map, nat_le, option_map, slice_range, sum_by, String, string_bytes, if◌then◌else◌}
 use Rattle.std.specs.List.{concat}
 use Rattle.std.specs.declared.alloc.Global.{Global}
@@ -45,7 +45,7 @@ pub data Form : Type 0 where
 abbrev pub size_in : List ℕ → Option ℕ
 size_in word = if nat_le (length word) 3 then only_between 1 LARGEST_LOAD (numeral 10 word) else None
 
--- the form of a verb and the word after it
+-- the form that a verb and the word after it have
 abbrev pub form_of_verb : List ℕ → List ℕ → Option Form
 form_of_verb verb word =
     if bytes_eq verb (codes "run") then Some (run word)
@@ -63,7 +63,7 @@ form_of (verb ∷ word ∷ other ∷ others) = None
 
 -- ---- the report of a script
 
--- the machine begins with the script's board
+-- the machine at first, with the script's board
 abbrev pub first_machine : Files → Script → MachineView
 first_machine files script = booted files (board_of script.board)
 
@@ -95,7 +95,7 @@ replies files machine (command ∷ commands) =
     let after : Reply × MachineView = exec command files machine in
     after.0 ∷ replies files after.1 commands
 
--- the machine after commands
+-- the machine after these commands
 abbrev pub machine_after : Files → MachineView → List Command → MachineView
 machine_after files machine [] = machine
 machine_after files machine (command ∷ commands) = machine_after files (exec command files machine).1 commands
@@ -106,7 +106,7 @@ is_handle (Handle number) = true
 is_handle (Proto guid interface owner) = false
 is_handle (Entry agent controller attr count) = false
 
--- how many handles are live: the handles of a dump
+-- how many handles are live: the handles that a dump lists
 abbrev pub live_handles : Files → MachineView → ℕ
 live_handles files machine = count_by is_handle (exec Dump files machine).0.dump
 
@@ -127,7 +127,8 @@ summary_of files script = record {
 
 -- ---- the listing of an image
 
--- The code laid at 0: from the entry to the end of the section that has it, and nothing if no section has it.
+-- The code, laid at 0, is listed from the entry to the end of the section that holds the entry. If no section holds it,
+-- the listing is empty.
 abbrev pub code_listing_to : Option ℕ → List ℕ → List ℕ
 code_listing_to None file = []
 code_listing_to (Some end) file = listing (slice_range (laid file 0) (entry_of file) end) (entry_of file)
@@ -144,7 +145,7 @@ pub record Answer : Type 0 where
 abbrev pub answer : ℕ → List ℕ → Answer
 answer status text = record { status = status; text = text }
 
--- the file under a name is absent, there, or too long
+-- the file with a name is absent, there, or too long
 abbrev pub answer_to_file : (List ℕ → Answer) → NamedFile → Answer
 answer_to_file answer_to_bytes absent = answer 6 absent_line
 answer_to_file answer_to_bytes (present bytes) = answer_to_bytes bytes
@@ -160,7 +161,7 @@ abbrev pub check_answer : Reading Script → Answer
 check_answer (accepted script) = answer 0 accepted_line
 check_answer (refused number kind) = answer 2 (refused_line number kind)
 
--- the summary of the load of a size, which has its own files
+-- the summary of the load of a size; the load has its own files
 abbrev pub summary_answer : ℕ → Answer
 summary_answer size = answer 0 (summary_line size (summary_of load.files (load.script size)))
 

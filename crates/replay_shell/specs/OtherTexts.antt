@@ -1,4 +1,4 @@
--- What the program writes besides a report: one line each.
+-- What the program writes besides reports and listings: each is one line.
 use Rattle.std.specs.Prelude.{ℕ, List, [], ◌∷◌, ◌++◌, codes}
 use Rattle.std.specs.Fmt.{decimal}
 use Rattle.fw_types.specs.declared.image.PeRefusal.{PeRefusal}
@@ -11,11 +11,11 @@ use Rattle.replay_shell.specs.declared.summary.Summary.{Summary}
 abbrev pub accepted_line : List ℕ
 accepted_line = codes "ok" ++ 10 ∷ []
 
--- words of none of the program's forms
+-- the words have none of the program's forms
 abbrev pub usage_line : List ℕ
 usage_line = codes "usage: run SCRIPT, check SCRIPT, selftest N, disasm IMAGE" ++ 10 ∷ []
 
--- there is no file under the name
+-- there is no file with the name
 abbrev pub absent_line : List ℕ
 absent_line = codes "no such file" ++ 10 ∷ []
 

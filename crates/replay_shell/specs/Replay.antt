@@ -15,7 +15,7 @@ use Rattle.replay_shell.specs.declared.replay.Stop.TheVariants.{Shelf, Sink, Mem
 use Rattle.replay_shell.specs.Endings.{StopsAtRead, TakesPrefix, reads_at}
 use Rattle.replay_shell.specs.Headline.{report, texts}
 
--- the stop that a fault of the machine makes
+-- the stop that a fault of the machine leads to
 abbrev pub stop_of : ExecFault → Stop
 stop_of ShelfFailed = Shelf
 stop_of OutOfMemory = Memory
@@ -24,14 +24,15 @@ stop_of OutOfMemory = Memory
 abbrev pub text_of : Files → MachineView → Command → List ℕ
 text_of files machine command = reply_text command (exec command files machine).0
 
--- one command: its whole text was taken, or nothing of it unless the sink failed
+-- one command: its whole text was taken; or the program stopped, and nothing of the text was taken, or only a part if
+-- the sink failed
 abbrev pub TakesTurn : Files → MachineView → Command → Result MachineView Stop → Option (List ℕ) → Option (List ℕ) → Type 0
 TakesTurn files machine command (Ok next) old new = (next ≡ (exec command files machine).1) × (new ≡ with_bytes old (text_of files machine command))
 TakesTurn files machine command (Err Shelf) old new = (reads_file command ≡ true) × (new ≡ old)
 TakesTurn files machine command (Err Sink) old new = TakesProperPrefix old (text_of files machine command) new
 TakesTurn files machine command (Err Memory) old new = new ≡ old
 
--- all commands, from a machine on
+-- all commands, beginning with a machine
 abbrev pub TakesTurns : Files → MachineView → List Command → Result (Unit {0}) Stop → Option (List ℕ) → Option (List ℕ) → Type 0
 TakesTurns files machine commands (Ok done) old new = new ≡ with_bytes old (concat (texts files machine commands))
 TakesTurns files machine commands (Err Shelf) old new = (k : ℕ) × (reads_at commands k ≡ true) × (new ≡ with_bytes old (concat (take k (texts files machine commands))))

@@ -9,7 +9,7 @@ use std::test::Fail;
 const MOST_ROM_BYTES: usize = 1_048_576;
 
 /// A shelf with a script `s`, the smallest driver's image `a.efi`, and two files `most.rom` and
-/// `long.rom`, the second of which is too long for an option ROM. Some of its reads fail.
+/// `long.rom`. The second is too long for an option ROM. Some of the shelf's reads fail.
 fn shelf_of(alloc: Global, script: &str, failing: &[u64]) -> Result<MemShelf, AllocError> {
     let most = vec![in alloc; 0u8; MOST_ROM_BYTES]?;
     let long = vec![in alloc; 0u8; MOST_ROM_BYTES + 1]?;
@@ -66,8 +66,8 @@ const TWO_ROMS_REPORT: &str =
 
 #[test]
 fn a_shelf_that_fails_at_boot_leaves_the_text_empty(rt: HostRuntime) -> Result<(), Fail> {
-    // The read that fails, and how many bytes were written by then: of the notes 36, and 27 of each
-    // command.
+    // The read that fails, the status, and how many bytes were written by then: the notes have 36
+    // together, and each command has 27.
     for (read, want, taken) in [
         (1, 3, 0),
         (2, 3, 0),

@@ -13,7 +13,7 @@ use fw_shelf::{Shelf, ShelfFault, Sink};
 use script_text::{ScriptFault, parse};
 use std::alloc::Global;
 
-/// Says that bytes are a script, or which of its lines is refused.
+/// Says that these bytes are a script, or which of their lines is refused.
 ///
 /// # Errors
 ///
@@ -37,8 +37,8 @@ fn check_bytes<K: Sink>(alloc: Global, bytes: &[u8], sink: &mut K) -> Result<u8,
     }
 }
 
-/// Reads the file under a name, once, and says whether it is a script. No command is done, and no
-/// file that the script names is read.
+/// Reads the file with this name, once, and says whether it is a script. No command is done, and
+/// no file that the script names is read.
 ///
 /// # Errors
 ///

@@ -27,8 +27,8 @@ fn refusal(alloc: Global, refusal: PeRefusal) -> Result<String, OutOfMemory>
     Ok(format!(in alloc; "image {kind}\n")?)
 }
 
-/// The listing of an image's code, laid at 0: from the entry to the end of the section that has it,
-/// and nothing if no section has it.
+/// The listing of an image's code, laid at 0, from the entry to the end of the section that holds
+/// the entry. If no section holds it, the listing is empty.
 ///
 /// # Errors
 ///
@@ -95,7 +95,7 @@ fn say_refusal<K: Sink>(alloc: Global, kind: PeRefusal, sink: &mut K) -> Result<
     say(sink, 8, text.as_bytes())
 }
 
-/// Lists the image that bytes are, or says why they are refused.
+/// Lists the image in these bytes, or says why it is refused.
 ///
 /// # Errors
 ///
@@ -118,7 +118,7 @@ fn list_bytes<K: Sink>(alloc: Global, file: &[u8], sink: &mut K) -> Result<u8, S
     }
 }
 
-/// Reads the image under a name, once, and lists its code.
+/// Reads the image with this name, once, and lists its code.
 ///
 /// # Errors
 ///

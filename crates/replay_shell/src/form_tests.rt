@@ -8,7 +8,7 @@ use std::test::Fail;
 /// The usage line.
 const USAGE: &str = "usage: run SCRIPT, check SCRIPT, selftest N, disasm IMAGE\n";
 
-/// What two words answer and write, over a shelf with one file `s`, some reads of which fail.
+/// What two words answer and write, over a shelf with one file `s`. Some reads of the shelf fail.
 fn answered(
     alloc: Global,
     verb: &str,
@@ -29,7 +29,8 @@ fn answered(
 
 #[test]
 fn scripts_are_checked(rt: HostRuntime) -> Result<(), Fail> {
-    // A script, and the status with its text. A load of a file that is absent is no refusal.
+    // A script, and the status with its text. To load an absent file is no reason to refuse a
+    // script.
     let cases: [(&str, u8, &str); 10] = [
         ("root 0 0", 0, "ok\n"),
         ("", 0, "ok\n"),
@@ -81,9 +82,9 @@ fn loads_are_summed_up(rt: HostRuntime) -> Result<(), Fail> {
     // The size of a load as it is written, and the status with its text. A load of size N loads the
     // driver N times, and then connects and disconnects N times. Each load of the driver makes an
     // event and spends 82 units, and its image stays. A connect makes three events, one of them for
-    // Start of the PCI bus driver, which makes N children: 3 * 64 + 16 * N units. A disconnect takes
-    // them away again, for as much. So a load comes to N * (82 + 384 + 32 * N) units and 7 * N
-    // events. Beside the images there are three handles.
+    // Start of the PCI bus driver, which makes N children: 3 * 64 + 16 * N units. A disconnect
+    // removes them again and costs as much. So a load comes to N * (82 + 384 + 32 * N) units and
+    // 7 * N events. In addition to the images there are three handles.
     let cases: [(&str, u8, &str); 12] = [
         (
             "1",
@@ -115,7 +116,7 @@ fn loads_are_summed_up(rt: HostRuntime) -> Result<(), Fail> {
         ("0x1", 1, USAGE),
     ];
     for (word, want, text) in cases {
-        // The shelf fails at its first read, and is not read.
+        // The shelf would fail at its first read, but it is not read.
         let alloc = rt.alloc();
         let (status, sink) = answered(alloc, "selftest", word, Vec::new(alloc), &[1])?;
         assert_eq!(rt; status, want, "at {word}");

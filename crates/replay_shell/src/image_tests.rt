@@ -11,7 +11,7 @@ use std::test::Fail;
 /// A driver whose entry traps at once: BREAK 0.
 const BROKEN: &[u8] = b"\x00\x00";
 
-/// What is written if a script loads a file.
+/// What the program answers and writes if a script loads a file.
 fn loaded(alloc: Global, file: Vec<u8>) -> Result<(u8, MemSink), OutOfMemory> {
     answered(alloc, "run", "s", file, &[], &[])
 }
@@ -38,7 +38,7 @@ fn images_are_refused_by_kind(rt: HostRuntime) -> Result<(), Fail> {
             ],
             "image 1 refused Reloc\n= LOAD_ERROR 0\n",
         ),
-        // An application of which the relocations were stripped.
+        // An application whose relocations were stripped.
         (
             &[(0x9C, &[10]), (0x56, &[0x0F])],
             "image 1 refused Subsystem\n= UNSUPPORTED 0\n",
@@ -86,7 +86,7 @@ fn images_are_refused_by_kind(rt: HostRuntime) -> Result<(), Fail> {
     Ok(())
 }
 
-/// An image of an option ROM that is no plain driver: its header, with the signature of an EFI
+/// An image of an option ROM that is not a plain driver: its header, with the signature of an EFI
 /// image if its code type is 3, and the PCI data structure at 28.
 fn other_image(alloc: Global, code_type: u8, compression: u8) -> Result<Vec<u8>, AllocError> {
     let mut bytes: Vec<u8> = vec![in alloc; 0; 512]?;
@@ -177,7 +177,7 @@ fn option_roms_are_loaded_image_by_image(rt: HostRuntime) -> Result<(), Fail> {
             rom_of(alloc, &[good, bad, good])?,
             "1 0 entry 3 0 0 SUCCESS\n2 0 entry 4 0 0 trap:Break\n3 0 entry 4 0 0 SUCCESS\nimage 1 handle 3\nimage 2 ABORTED\nimage 3 handle 4\nrom Done\n= SUCCESS 245\n",
         ),
-        // One stays loaded, whatever comes after it.
+        // One image stays loaded, whatever comes after it.
         (
             rom_of(alloc, &[good, bad])?,
             "1 0 entry 3 0 0 SUCCESS\n2 0 entry 4 0 0 trap:Break\nimage 1 handle 3\nimage 2 ABORTED\nrom Done\n= SUCCESS 163\n",
@@ -195,8 +195,9 @@ fn option_roms_are_loaded_image_by_image(rt: HostRuntime) -> Result<(), Fail> {
 #[test]
 fn a_command_spends_all_of_its_units(rt: HostRuntime) -> Result<(), Fail> {
     let alloc = rt.alloc();
-    // A jump to itself. Laying costs 16, and a call ends at 1,048,576 units. The fourth call ends
-    // when the command has none left of its 4,194,304, and then the fifth image is not laid.
+    // A jump to itself. Laying costs 16 units, and a call ends at 1,048,576 units. The fourth call
+    // ends when the command has none of its 4,194,304 units left, and then the fifth image is not
+    // laid.
     let endless = image(alloc, b"\x02\xFF")?;
     let body = endless.as_slice();
     let rom = rom_of(alloc, &[body, body, body, body, body])?;
@@ -218,7 +219,7 @@ fn a_command_spends_all_of_its_units(rt: HostRuntime) -> Result<(), Fail> {
     Ok(())
 }
 
-/// Adds 10, 9, .. and 1, and answers DEVICE_ERROR if the sum is not 55. R4 is 0 as it begins.
+/// Adds 10, 9, .. and 1, and answers DEVICE_ERROR if the sum is not 55. R4 is 0 when it begins.
 const ADDER: &str = "\
     MOVIqw R5, 10\n\
     MOVIqw R6, 0\n\
@@ -238,9 +239,9 @@ const ADDER: &str = "\
 #[test]
 fn a_driver_with_a_loop_is_assembled_and_run(rt: HostRuntime) -> Result<(), Fail> {
     let alloc = rt.alloc();
-    // The sum that is wanted, which comes after 22 bytes of the code, and the report. Of the units,
-    // laying costs 16 and the call 64; then two instructions come before the loop, which has 4 and
-    // is run 10 times, and 4 after it.
+    // The expected sum, which comes after 22 bytes of the code, and the report. Of the units,
+    // laying costs 16 and the call 64. Then two instructions come before the loop, which has 4 and
+    // runs 10 times, and 4 come after it.
     let cases: [(u8, &str); 2] = [
         (
             55,

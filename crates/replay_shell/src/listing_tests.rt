@@ -36,7 +36,7 @@ pub fn answered(
     Ok((top(alloc, &words, &mut shelf, &mut sink), sink))
 }
 
-/// What is written if an image is listed.
+/// What the program answers and writes if an image is listed.
 fn listed(alloc: Global, file: Vec<u8>) -> Result<(u8, MemSink), OutOfMemory> {
     answered(alloc, "disasm", "f", file, &[], &[])
 }
@@ -61,7 +61,7 @@ fn images_are_listed(rt: HostRuntime) -> Result<(), Fail> {
         (&[], 0, "00000200 MOVIqw R7, 0\n00000204 RET\n"),
         (&[(0x68, &[0x04, 0x02])], 0, "00000204 RET\n"),
         (&[(0x200, &[0x27])], 0, "00000200 .illegal\n"),
-        // The entry is in the headers, so in no section.
+        // The entry is in the headers, and so in no section.
         (&[(0x68, &[0x10, 0x00])], 0, ""),
         (&[(0x9C, &[10]), (0x56, &[0x0F])], 8, "image Subsystem\n"),
         (&[(0, b"ZM")], 8, "image NoMz\n"),
@@ -87,7 +87,7 @@ fn a_listing_ends_for_other_causes(rt: HostRuntime) -> Result<(), Fail> {
     let (status, sink) = answered(alloc, "disasm", "f", image(alloc, STALL)?, &[1], &[])?;
     assert_eq!(rt; status, 3);
     assert_eq!(rt; sink.taken(), b"".as_slice());
-    // Two writes of 7 bytes each work.
+    // Two writes of 7 bytes succeed.
     let (status, sink) = answered(alloc, "disasm", "f", image(alloc, STALL)?, &[], &[3])?;
     assert_eq!(rt; status, 4);
     assert_eq!(rt; sink.taken(), b"00000200 MOVqw".as_slice());

@@ -21,7 +21,7 @@ fn shelf_of(alloc: Global, script: &[u8], a: &[u8], b: &[u8]) -> Result<MemShelf
     Ok(MemShelf::new(files, Vec::new(alloc)))
 }
 
-/// Replays a script over the images of some code, into a sink with room for all.
+/// Replays a script over the images of some code, into a sink with room for everything.
 pub fn replayed(
     alloc: Global,
     script: &[u8],
@@ -46,7 +46,7 @@ fn loads_are_replayed(rt: HostRuntime) -> Result<(), Fail> {
             SMALLEST,
             "> load none.efi\n= NOT_FOUND 0\n",
         ),
-        // The script is no image.
+        // The script is not an image.
         (
             "load s\n",
             SMALLEST,
@@ -81,14 +81,14 @@ fn loads_are_replayed(rt: HostRuntime) -> Result<(), Fail> {
             SMALLEST,
             "> load a.efi\n1 0 entry 3 0 0 trap:Budget\nimage 1 ABORTED\n= ABORTED 1048592\n",
         ),
-        // A native call of Stall, whose address the firmware's tables have, and of SetTimer.
+        // A native call of Stall, whose address is in the firmware's tables, and one of SetTimer.
         (
             "load a.efi\nload b.efi\n",
             b"\x60\x84\x18\x00\x60\xC4\x60\x00\x35\x05\x83\x2C\xF8\x00\x00\x00\x36\x05\x04\x00",
             b"\x60\x84\x18\x00\x60\xC4\x60\x00\x35\x05\x83\x2C\x58\x00\x00\x00\x36\x05\x04\x00",
             "> load a.efi\n1 0 entry 3 0 0 SUCCESS\nimage 1 handle 3\n= SUCCESS 87\n> load b.efi\n1 0 entry 4 0 0 UNSUPPORTED\nimage 1 UNSUPPORTED\n= UNSUPPORTED 87\n",
         ),
-        // A warning is a success; an error with a name, and one without.
+        // A warning, which is a success; an error with a name; and one without a name.
         (
             "load a.efi\n",
             b"\x77\x37\x05\x00\x04\x00",
@@ -156,7 +156,7 @@ fn traps_and_breaks_are_reported(rt: HostRuntime) -> Result<(), Fail> {
 }
 
 /// MOVIqd R1, 0x2000210; MOVqw R7, @R1; RET: the value is what the first image has 16 bytes after
-/// its entry, where this code has zeros.
+/// its entry. This code has zeros there.
 const READER: &[u8] =
     b"\xB7\x31\x10\x02\x00\x02\x20\x97\x04\x00\x00\x00\x00\x00\x00\x00\x00\x00\x00\x00\x00\x00\x00\x00";
 
@@ -184,7 +184,8 @@ fn what_a_failed_entry_wrote_is_undone(rt: HostRuntime) -> Result<(), Fail> {
 
 #[test]
 fn a_driver_sees_what_the_firmware_maps(rt: HostRuntime) -> Result<(), Fail> {
-    // MOVI to R1 of an address, and what the code does there; and the report after its first line.
+    // A MOVI of an address to R1, and what the code does at that address; and the report after its
+    // first line.
     let cases: [(&[u8], &str); 4] = [
         // The signature of the system table.
         (
@@ -218,7 +219,7 @@ fn a_driver_sees_what_the_firmware_maps(rt: HostRuntime) -> Result<(), Fail> {
 #[test]
 fn runs_end_at_the_image_and_at_the_budget(rt: HostRuntime) -> Result<(), Fail> {
     let alloc = rt.alloc();
-    // How many MOVIqw R7, 0 come before a RET, or without one, and the report.
+    // How many MOVIqw R7, 0 there are, the RET after them or none, and the report.
     let cases: [(usize, &[u8], &str); 3] = [
         (
             128,
@@ -246,7 +247,7 @@ fn runs_end_at_the_image_and_at_the_budget(rt: HostRuntime) -> Result<(), Fail> 
     Ok(())
 }
 
-/// Whether a text ends so.
+/// Whether a text ends like this.
 fn ends_with(text: &[u8], end: &str) -> bool {
     text.ends_with(end.as_bytes())
 }

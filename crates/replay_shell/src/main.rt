@@ -1,12 +1,12 @@
 //! The program: it reads a script, replays its commands on the driver-model machine, and writes the
 //! report.
 //!
-//! The way of a command: `words` reads the words, `run` has `script_text` turn the script's lines
-//! into a board and commands, `replay` begins the machine of `bind_engine` with the board and hands
-//! it from command to command, and `report_text` makes the text of the board's notes and that of each
-//! command. `check` reads a script alone. `selftest` has `load_gen` make a script, and `summary` adds
-//! up its replies. `disasm` lists an image. `respond` is all four forms, and `top` is all of this
-//! over any shelf and any sink.
+//! The path of a command: `words` reads the words, and `run` has `script_text` turn the script's
+//! lines into a board and commands. `replay` begins the machine of `bind_engine` with the board and
+//! hands it from command to command. `report_text` makes the text of the board's notes and that of
+//! each command. `check` only reads a script. `selftest` has `load_gen` make a script, and `summary`
+//! adds up its replies. `disasm` lists an image. `respond` has all four forms, and `top` is all of
+//! this over any shelf and any sink.
 #![tactic(auto)]
 
 ghost use Rattle.std.specs.Prelude.{◌≡◌, ◌≢◌, IfOk, drop};
@@ -52,7 +52,7 @@ use std::process::ExitCode;
 /// The status if the program is out of memory before it begins.
 const NO_MEMORY: u8 = 5;
 
-/// The status if the runtime does not give the words for any other cause.
+/// The status if the runtime does not give the words for any other reason.
 const NO_RUNTIME: u8 = 9;
 
 fn main(rt: HostRuntime) -> ExitCode {
@@ -89,7 +89,7 @@ fn status_without_words(kind: ErrorKind) -> u8
     }
 }
 
-/// All words after the first one, which is the program's name.
+/// All words after the first, which is the program's name.
 ///
 /// # Errors
 ///

@@ -13,7 +13,7 @@ struct Terminal {
 }
 
 impl Terminal {
-    /// Whether this is all that came out.
+    /// Whether exactly this text was written.
     fn shows(&self, text: &[u8]) -> bool {
         match self.text.try_borrow() {
             Ok(shown) => shown.as_slice() == text,

@@ -16,7 +16,7 @@ const INSTALL: &str = "\
     PUSHn R1\n\
     CALL32EXa @R4[0x00000080]\n";
 
-/// Calls InstallProtocolInterface again, with what lies on the stack.
+/// Calls InstallProtocolInterface again, with what is on the stack.
 const AGAIN: &str = "CALL32EXa @R4[0x00000080]\n";
 
 /// Calls HandleProtocol for the handle, which stores the interface in the place of its number.
@@ -34,8 +34,8 @@ const UNINSTALL: &str = "\
     PUSHn @R1\n\
     CALL32EXa @R4[0x00000090]\n";
 
-/// Calls LocateHandle by the protocol, with room for one handle in the place of the number, which
-/// is 0 before.
+/// Calls LocateHandle by the protocol, with room for one handle in the place of the number. The
+/// place is 0 before.
 const LOCATE: &str = "\
     MOVqw @R1, R6\n\
     MOVIqw R5, 8\n\
@@ -49,8 +49,8 @@ const LOCATE: &str = "\
     PUSHn R5\n\
     CALL32EXa @R4[0x000000B0]\n";
 
-/// Calls OpenProtocol for the handle, of which R3 then has the number: exclusively, for the image
-/// itself. The interface is stored in the place of the number.
+/// Calls OpenProtocol for the handle, exclusively and for the image itself. R3 then has the
+/// handle's number, and the interface is stored in the place of the number.
 const OPEN_ALONE: &str = "\
     MOVIqw R5, 32\n\
     PUSHn R5\n\
@@ -63,7 +63,7 @@ const OPEN_ALONE: &str = "\
     PUSHn R3\n\
     CALL32EXa @R4[0x00000118]\n";
 
-/// Calls OpenProtocol again, with what lies on the stack.
+/// Calls OpenProtocol again, with what is on the stack.
 const OPEN_AGAIN: &str = "CALL32EXa @R4[0x00000118]\n";
 
 /// Calls CloseProtocol for what `OPEN_ALONE` has opened.
@@ -74,7 +74,7 @@ const CLOSE: &str = "\
     PUSHn R3\n\
     CALL32EXa @R4[0x00000120]\n";
 
-/// Calls CloseProtocol again, with what lies on the stack.
+/// Calls CloseProtocol again, with what is on the stack.
 const CLOSE_AGAIN: &str = "CALL32EXa @R4[0x00000120]\n";
 
 /// Calls OpenProtocolInformation for what `OPEN_ALONE` has opened, and answers the attributes and
@@ -142,10 +142,12 @@ const NAME: &str = "\
     .byte 0x00, 0xb2, 0xf5, 0x4c, 0xb8, 0x68, 0xa5, 0x4c\n\
     .byte 0x9e, 0xec, 0xb2, 0x3e, 0x3f, 0x50, 0x02, 0x9a\n";
 
-// Of the units in these reports laying costs 16 and a call 64; the others are one for each
-// instruction, 8 for each service on one protocol, and 16 for those that go through a list.
+// Of the units in these reports, laying costs 16 and a call 64. The others are one for each
+// instruction, 8 for each service on one protocol, and 16 for each service that goes through a
+// list.
 
-/// What the report says of the load of a driver that installs, and then does these parts.
+/// Checks what the report says of the load of a driver that installs the protocol and then does
+/// these parts.
 fn reports(rt: &(impl AllocGlobal + Abort), parts: &[&str], lines: &str) -> Result<(), Fail> {
     let alloc = rt.alloc();
     let mut all = Vec::new(alloc);
@@ -169,7 +171,7 @@ fn protocols_are_installed_opened_and_uninstalled(rt: HostRuntime) -> Result<(),
             &[ANSWER, LEAVE, NAME],
             "1 0 entry 3 0 0 0x0000000000000004\nimage 1 handle 3\n= SUCCESS 102\n",
         ),
-        // It has the interface, once and no second time.
+        // The new handle has the interface, which is not installed a second time.
         (
             &[OPEN, ANSWER, LEAVE, NAME],
             "1 0 entry 3 0 0 0x0000000000000005\nimage 1 handle 3\n= SUCCESS 115\n",
@@ -178,7 +180,7 @@ fn protocols_are_installed_opened_and_uninstalled(rt: HostRuntime) -> Result<(),
             &[AGAIN, LEAVE, NAME],
             "1 0 entry 3 0 0 INVALID_PARAMETER\nimage 1 INVALID_PARAMETER\n= INVALID_PARAMETER 110\n",
         ),
-        // It goes, and its handle with it.
+        // The interface is uninstalled, and its handle goes with it.
         (
             &[UNINSTALL, LEAVE, NAME],
             "1 0 entry 3 0 0 SUCCESS\nimage 1 handle 3\n= SUCCESS 113\n",

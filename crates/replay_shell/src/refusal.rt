@@ -14,7 +14,7 @@ use fw_types::OutOfMemory;
 use script_text::ScriptKind;
 use std::alloc::Global;
 
-/// The word for a kind.
+/// The word for the kind of a refusal.
 fn kind_name(kind: ScriptKind) -> &'static str
     ensures { result.now ≡ kind_word kind }
 {

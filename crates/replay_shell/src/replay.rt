@@ -56,12 +56,12 @@ impl From<OutOfMemory> for Stop {
     }
 }
 
-/// Does one command, and writes its text after it has ended. The budgets of the command are ones
-/// that a machine may be given.
+/// Does one command, and writes its text after it has ended. The budgets of the command are within
+/// the limits of a machine.
 ///
 /// # Errors
 ///
-/// - `Shelf` only if the shelf failed, and only at a command that reads a file; nothing was written
+/// - `Shelf` only if the shelf failed, and only at a command that reads a file. Nothing was written
 ///   then.
 /// - `Sink` only if the sink failed; a prefix of the text was written then, and not all of it.
 /// - `Memory` if there is no memory; nothing was written then.
@@ -91,7 +91,7 @@ fn take_turn<F: Shelf, K: Sink>(
 }
 
 /// Does commands on a machine, one after the other, and writes the text of each after it has ended.
-/// The budgets of each command are ones that a machine may be given.
+/// The budgets of each command are within the limits of a machine.
 ///
 /// # Errors
 ///
@@ -125,7 +125,7 @@ fn take_turns<F: Shelf, K: Sink>(
     Ok(())
 }
 
-/// The board of lines that are one.
+/// The board that these lines make.
 ///
 /// # Errors
 ///
@@ -141,7 +141,7 @@ fn board_of(alloc: Global, lines: &[BoardLine]) -> Result<Board, OutOfMemory>
     }
 }
 
-/// A machine with the board of a script, whose lines are one, and the notes of the board's option
+/// A machine with the board that the lines of a script make, and the notes on the board's option
 /// ROMs as a text.
 ///
 /// # Errors
@@ -172,14 +172,14 @@ pub fn boot<F: Shelf>(
     Ok((machine, notes))
 }
 
-/// Replays a script: the machine begins with the script's board, whose notes are written, and does
-/// the commands, the text of each of which is written after it has ended. The lines of the board are
-/// one, and the budgets of each command are ones that a machine may be given.
+/// Replays a script. The machine begins with the script's board, whose notes are written. Then it
+/// does the commands, and the text of each command is written after it has ended. The lines make a
+/// board, and the budgets of each command are within the limits of a machine.
 ///
 /// # Errors
 ///
-/// - `Shelf` only if the shelf failed; nothing was written then, or the notes and the texts of the
-///   commands before one that reads a file.
+/// - `Shelf` only if the shelf failed. By then nothing was written, or the notes and the texts of
+///   the commands before one that reads a file.
 /// - `Sink` only if the sink failed; a prefix of the text was written then, and not all of it.
 /// - `Memory` if there is no memory; a prefix of the text was written then.
 pub fn replay<F: Shelf, K: Sink>(

@@ -14,7 +14,8 @@ use crate::words::{Form, form_of_words};
 use fw_shelf::{Shelf, Sink};
 use std::alloc::Global;
 
-/// Answers the words after the program's name: the status with which the program ends.
+/// Answers the words after the program's name. The answer is the status with which the program
+/// ends.
 ///
 /// # Errors
 ///

@@ -16,7 +16,7 @@ use fw_shelf::{Shelf, ShelfFault, Sink};
 use script_text::{Script, ScriptFault, parse};
 use std::alloc::Global;
 
-/// Replays the script that bytes are, or says which of its lines is refused.
+/// Replays the script in these bytes, or says which of its lines is refused.
 ///
 /// # Errors
 ///
@@ -47,8 +47,8 @@ fn run_bytes<F: Shelf, K: Sink>(
     }
 }
 
-/// Replays a script. The lines of its board are one, and the budgets of each command are ones that a
-/// machine may be given.
+/// Replays a script. Its lines make a board, and the budgets of each command are within the limits
+/// of a machine.
 ///
 /// # Errors
 ///
@@ -77,7 +77,7 @@ fn replay_script<F: Shelf, K: Sink>(
     Ok(0)
 }
 
-/// Reads the script under a name, once, and replays it.
+/// Reads the script with this name, once, and replays it.
 ///
 /// # Errors
 ///

@@ -4,14 +4,14 @@ use fw_shelf::MemSink;
 use std::alloc::Global;
 use std::test::Fail;
 
-/// Puts the address of the boot services into R4: they are a field of the system table, which is
-/// the second argument of an entry.
+/// Puts the address of the boot services into R4. It is a field of the system table, which is the
+/// second argument of an entry point.
 pub const FIND_SERVICES: &str = "\
     MOVqw R4, @R0[0x0018]\n\
     MOVqw R4, @R4[0x0060]\n";
 
-/// Calls AllocatePool for 24 bytes. R1 points to the 8 bytes in which the address is stored, which
-/// are on the stack.
+/// Calls AllocatePool for 24 bytes. R1 points to the 8 bytes on the stack in which the address is
+/// stored.
 const ALLOCATE: &str = "\
     PUSHn R6\n\
     MOVqw R1, R0\n\
@@ -41,12 +41,12 @@ const SET: &str = "CALL32EXa @R4[0x00000168]\n";
 /// Answers the 8 bytes to which R1 points.
 pub const ANSWER: &str = "MOVqw R7, @R1\n";
 
-/// Leaves. R1 points to the first 8 bytes that were put on the stack.
+/// Takes everything off the stack and returns. R1 points to the first 8 bytes that were put on it.
 pub const LEAVE: &str = "\
     MOVqw R0, R1[0x0008]\n\
     RET\n";
 
-/// The end of the stack goes into R0.
+/// Puts the end of the stack into R0.
 const NO_STACK: &str = "\
     MOVIqw R5, 144\n\
     ADD64 R0, R5\n";
@@ -69,24 +69,24 @@ pub fn assembled(alloc: Global, parts: &[&str]) -> Result<Vec<u8>, Fail> {
     Ok(assemble(alloc, text.as_str()).ok().ok_or("refused")?)
 }
 
-/// What is written if a script loads the image of a code.
+/// What the program answers and writes if a script loads the image of a code.
 fn loaded(alloc: Global, code: &[u8]) -> Result<(u8, MemSink), Fail> {
     Ok(replayed(alloc, b"load a.efi\n", code, b"\x04\x00")?)
 }
 
-// Of the units in these reports laying costs 16 and a call 64; the others are one for each
+// Of the units in these reports, laying costs 16 and a call 64. The others are one for each
 // instruction, and the prices of the services.
 
 #[test]
 fn blocks_are_made_and_given_back(rt: HostRuntime) -> Result<(), Fail> {
     let alloc = rt.alloc();
-    // What is done after an AllocatePool, and what the report says of it.
+    // What is done after AllocatePool, and what the report says of it.
     let cases: [(&[&str], &str); 3] = [
         (
             &[ANSWER, LEAVE],
             "1 0 entry 3 0 0 0x0000000100000060\nimage 1 handle 3\n= SUCCESS 94\n",
         ),
-        // The block is given back once, and twice.
+        // The block is freed once, and then twice.
         (
             &["PUSHn @R1\n", FREE, LEAVE],
             "1 0 entry 3 0 0 SUCCESS\nimage 1 handle 3\n= SUCCESS 99\n",
@@ -112,7 +112,7 @@ fn bytes_are_set_and_copied(rt: HostRuntime) -> Result<(), Fail> {
     let alloc = rt.alloc();
     // A code, and what the report says of its load.
     let cases: [(&[&str], &str); 5] = [
-        // 1 byte of the system table is set.
+        // One byte of the system table is set.
         (
             &[
                 FIND_SERVICES,
@@ -142,7 +142,7 @@ fn bytes_are_set_and_copied(rt: HostRuntime) -> Result<(), Fail> {
             ],
             "1 0 entry 3 0 0 SUCCESS\nimage 1 handle 3\n= SUCCESS 89\n",
         ),
-        // 6 of 8 bytes are copied by two places, up and down.
+        // 6 of 8 bytes are copied by two places: up, and in the next case down.
         (
             &[
                 FIND_SERVICES,
@@ -181,8 +181,8 @@ fn prices_come_before_the_work(rt: HostRuntime) -> Result<(), Fail> {
     let alloc = rt.alloc();
     // What is done with the boot services in R4, and what the report says of it.
     let cases: [(&[&str], &str); 6] = [
-        // SetMem at 0 of so many bytes that its price is all that the call has left, and one unit
-        // more.
+        // SetMem at 0 of so many bytes that its price is all the units that the call has left, and
+        // then one unit more.
         (
             &["MOVIqd R5, 8388032\nPUSHn R6\nPUSHn R5\nPUSHn R6\n", SET],
             "1 0 entry 3 0 0 trap:Memory\nimage 1 ABORTED\n= ABORTED 1048592\n",
@@ -191,8 +191,8 @@ fn prices_come_before_the_work(rt: HostRuntime) -> Result<(), Fail> {
             &["MOVIqd R5, 8388033\nPUSHn R6\nPUSHn R5\nPUSHn R6\n", SET],
             "1 0 entry 3 0 0 trap:Budget\nimage 1 ABORTED\n= ABORTED 87\n",
         ),
-        // No argument can be read. Stall has a price of its own, which is spent; that of
-        // AllocatePool names an argument.
+        // No argument can be read. The price of Stall depends on no argument and is spent. That of
+        // AllocatePool depends on one.
         (
             &[NO_STACK, "CALL32EXa @R4[0x000000F8]\n"],
             "1 0 entry 3 0 0 trap:Memory\nimage 1 ABORTED\n= ABORTED 86\n",
@@ -201,7 +201,7 @@ fn prices_come_before_the_work(rt: HostRuntime) -> Result<(), Fail> {
             &[NO_STACK, "CALL32EXa @R4[0x00000040]\n"],
             "1 0 entry 3 0 0 trap:Memory\nimage 1 ABORTED\n= ABORTED 85\n",
         ),
-        // SetTimer is not built, so it reads none.
+        // SetTimer is not built, so it reads no argument.
         (
             &[
                 NO_STACK,
@@ -209,7 +209,7 @@ fn prices_come_before_the_work(rt: HostRuntime) -> Result<(), Fail> {
             ],
             "1 0 entry 3 0 0 UNSUPPORTED\nimage 1 UNSUPPORTED\n= UNSUPPORTED 88\n",
         ),
-        // Nor is the last service of the table.
+        // Nor is the last service of the table built.
         (
             &["CALL32EXa @R4[0x00000170]\nRET\n"],
             "1 0 entry 3 0 0 UNSUPPORTED\nimage 1 UNSUPPORTED\n= UNSUPPORTED 85\n",
@@ -229,8 +229,8 @@ fn prices_come_before_the_work(rt: HostRuntime) -> Result<(), Fail> {
 #[test]
 fn the_task_priority_level_is_as_before_a_call(rt: HostRuntime) -> Result<(), Fail> {
     let alloc = rt.alloc();
-    // RaiseTPL to 16 once and twice; and RestoreTPL to 16 before it, which is above the level. Each
-    // code is loaded twice, and answers the level that its last call found.
+    // RaiseTPL to 16, once and then twice; and RestoreTPL to 16 before it, which is above the
+    // level. Each code is loaded twice, and answers the level that its last call found.
     let cases: [(&str, &str); 3] = [
         (
             "CALL32EXa @R4[0x00000018]\n",
@@ -268,7 +268,7 @@ fn native_code_is_called_by_its_address(rt: HostRuntime) -> Result<(), Fail> {
     let alloc = rt.alloc();
     let unsupported = "1 0 entry 3 0 0 UNSUPPORTED\nimage 1 UNSUPPORTED\n= UNSUPPORTED 84\n";
     let bad_call = "1 0 entry 3 0 0 trap:BadCall\nimage 1 ABORTED\n= ABORTED 82\n";
-    // Mem.Read of no elements costs 4 units, and `This` is here the exit address.
+    // Mem.Read of no elements costs 4 units, and `This` is the exit address here.
     let no_child =
         "1 0 entry 3 0 0 INVALID_PARAMETER\nimage 1 INVALID_PARAMETER\n= INVALID_PARAMETER 87\n";
     // An address, and what the report says of the load of a code that calls it.
@@ -278,19 +278,19 @@ fn native_code_is_called_by_its_address(rt: HostRuntime) -> Result<(), Fail> {
         (0x2_2008, unsupported),
         (0x2_2010, unsupported),
         (0x2_3000, unsupported),
-        // Functions of PCI I/O: the first, Mem.Read and the last; and the address after it.
+        // Functions of PCI I/O: the first, Mem.Read and the last; and the address after the last.
         (0x2_1000, unsupported),
         (0x2_1010, no_child),
         (0x2_1088, unsupported),
         (0x2_1090, bad_call),
-        // The exit address, at which there is nothing to call.
+        // The exit address, where there is nothing to call.
         (0x2_4000, bad_call),
         // The header of the boot services, an odd address in it, and the address after the last
         // service.
         (0x2_0000, bad_call),
         (0x2_0011, bad_call),
         (0x2_0178, bad_call),
-        // A thunk that no code has requested, and nothing at all.
+        // The address of a thunk that no code has requested, and an address with nothing at it.
         (0x40_0000, bad_call),
         (0, bad_call),
     ];
@@ -311,7 +311,7 @@ fn thunks_are_made_of_entries_in_images(rt: HostRuntime) -> Result<(), Fail> {
     let align = "1 0 entry 3 0 0 trap:Align\nimage 1 ABORTED\n= ABORTED 82\n";
     let fetch = "1 0 entry 3 0 0 trap:Fetch\nimage 1 ABORTED\n= ABORTED 82\n";
     let memory = "1 0 entry 3 0 0 trap:Memory\nimage 1 ABORTED\n= ABORTED 82\n";
-    // A code whose R7 points to a place as it asks for a thunk, and what the report says of its
+    // A code whose R7 points to a place when it asks for a thunk, and what the report says of its
     // load.
     let cases: [(&[&str], &str); 8] = [
         // The place gets the thunk's address.
@@ -340,14 +340,14 @@ fn thunks_are_made_of_entries_in_images(rt: HostRuntime) -> Result<(), Fail> {
             &["MOVRELd R7, =place\nBREAK 5\nplace:\n.byte 0, 0, 0, 127, 0, 0, 0, 0\nRET\n"],
             fetch,
         ),
-        // The system table, which can be read and not written.
+        // The system table, which can be read but not written.
         (&["MOVIqd R7, 65536\nBREAK 5\n"], memory),
         // A thunk is called: its code ends at once, with 0 in R7. The call costs 64 units.
         (
             &["MOVRELd R7, =place\nBREAK 5\nCALL32EXa @R7\nRET\n", PLACE],
             "1 0 entry 3 0 0 SUCCESS\nimage 1 handle 3\n= SUCCESS 149\n",
         ),
-        // Thunks without end: 65,536 of them are made.
+        // Thunks are made without end, until there are 65,536.
         (
             &[
                 "MOVRELd R7, =place\nnext:\nMOVIdw @R7, 4\nBREAK 5\nJMP8 =next\n",
@@ -366,7 +366,7 @@ fn thunks_are_made_of_entries_in_images(rt: HostRuntime) -> Result<(), Fail> {
     Ok(())
 }
 
-/// Allocates 24 bytes, makes a thunk, puts the sum of both addresses into R7, and ends so.
+/// Allocates 24 bytes, makes a thunk, puts the sum of both addresses into R7, and ends like this.
 fn asking(alloc: Global, end: &str) -> Result<Vec<u8>, Fail> {
     assembled(
         alloc,
@@ -386,8 +386,8 @@ fn what_a_failed_entry_requested_is_undone(rt: HostRuntime) -> Result<(), Fail> 
     let good = asking(alloc, "RET\n")?;
     let bad = asking(alloc, "BREAK 0\n")?;
     let cases: [(&str, &str); 2] = [
-        // The loaded image block of the second image, of 96 bytes, comes after the first block of
-        // 24, which takes 32.
+        // The loaded image block of the second image has 96 bytes. It comes after the first block
+        // of 24 bytes, which takes 32.
         (
             "load a.efi\nload a.efi\n",
             "> load a.efi\n1 0 entry 3 0 0 0x0000000100400060\nimage 1 handle 3\n= SUCCESS 97\n> load a.efi\n1 0 entry 4 0 0 0x00000001004000f0\nimage 1 handle 4\n= SUCCESS 97\n",

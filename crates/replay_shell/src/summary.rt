@@ -34,8 +34,8 @@ pub struct Summary {
 }
 
 /// Does commands on a machine, one after the other, with the files of a shelf that never fails, and
-/// adds up their replies: the machine after them, and the sums. The budgets of each command are ones
-/// that a machine may be given.
+/// adds up their replies. The answer is the machine after them, and the sums. The budgets of each
+/// command are within the limits of a machine.
 ///
 /// # Errors
 ///
@@ -73,14 +73,14 @@ fn totals_of(
     Ok((machine, totals))
 }
 
-/// Whether a line of a dump is that of a handle.
+/// Whether a line of a dump is the line of a handle.
 fn is_handle(line: &DumpLine) -> bool
     ensures { result ≡ is_handle line.now }
 {
     matches!(line, DumpLine::Handle(_))
 }
 
-/// How many lines of a dump are those of handles.
+/// How many lines of a dump are lines of handles.
 fn handle_count(lines: &[DumpLine]) -> u64
     ensures { result ≡ count_by is_handle lines.now }
 {
@@ -102,8 +102,7 @@ fn live_handles(machine: Machine, shelf: &mut MemShelf) -> Result<u64, ExecFault
 }
 
 /// Replays a script with the files of a shelf that never fails, and sums up its replies as they come.
-/// The lines of the board are one, and the budgets of each command are ones that a machine may be
-/// given.
+/// Its lines make a board, and the budgets of each command are within the limits of a machine.
 ///
 /// # Errors
 ///

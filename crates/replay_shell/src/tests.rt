@@ -45,7 +45,7 @@ pub fn image(alloc: Global, code: &[u8]) -> Result<Vec<u8>, AllocError> {
     Ok(file)
 }
 
-/// A shelf with a script `s` and the smallest driver's image `a.efi`, some reads of which fail.
+/// A shelf with a script `s` and the smallest driver's image `a.efi`. Some of its reads fail.
 fn shelf_of(alloc: Global, script: &[u8], failing: &[u64]) -> Result<MemShelf, AllocError> {
     let script = (
         String::from_str(alloc, "s")?,
@@ -63,7 +63,7 @@ pub fn run_words(alloc: Global, name: &str) -> Result<Vec<String>, AllocError> {
     Ok(vec![in alloc; run, name]?)
 }
 
-/// The same piece so many times.
+/// The same piece, repeated `count` times.
 pub fn repeated(alloc: Global, piece: &[u8], count: usize) -> Result<Vec<u8>, AllocError> {
     let mut bytes = Vec::new(alloc);
     for _ in 0..count {
@@ -121,7 +121,7 @@ fn words_are_answered(rt: HostRuntime) -> Result<(), Fail> {
 const EACH_COMMAND: &str = "load a.efi\nload none.efi\nconnect 3 one end\n\
     disconnect 3 0 0\nunload 3\nplatform 3 2 3\nbudget 1000 64\ndump\n";
 
-/// Its report: the image is no driver, so the PCI bus driver alone is asked.
+/// Its report: the image installs no driver binding, so only the PCI bus driver is asked.
 const EACH_COMMAND_REPORT: &str =
     "> load a.efi\n1 0 entry 3 0 0 SUCCESS\nimage 1 handle 3\n= SUCCESS 82\n\
     > load none.efi\n= NOT_FOUND 0\n\

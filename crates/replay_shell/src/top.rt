@@ -10,9 +10,9 @@ use crate::respond::respond;
 use fw_shelf::{MemShelf, MemSink, Shelf, Sink};
 use std::alloc::Global;
 
-/// Does all that the program does: reads the words after its name, replays or checks a script, runs
-/// a generated load or lists an image, with the files of a shelf, and writes to a sink. The answer is
-/// the status with which the program ends:
+/// Does everything that the program does: it reads the words after its name, replays or checks a
+/// script, runs a generated load or lists an image, with the files of a shelf, and writes to a sink.
+/// The answer is the status with which the program ends:
 ///
 /// - 0: done, and the whole text was written: the report of a script, `ok`, the summary of a load or
 ///   the listing of an image;
@@ -22,7 +22,7 @@ use std::alloc::Global;
 ///   commands before;
 /// - 4: the sink failed, and a prefix of the text was written;
 /// - 5: out of memory, and a prefix of the text was written;
-/// - 6: there is no file under the name of the script or the image, and a line says so;
+/// - 6: there is no file with the name of the script or the image, and a line says so;
 /// - 7: that file has more than 16,777,216 bytes, and a line says so;
 /// - 8: the image that is to be listed is refused, and a line says why.
 pub fn top<F: Shelf, K: Sink>(alloc: Global, words: &Vec<String>, shelf: &mut F, sink: &mut K) -> u8
@@ -30,16 +30,16 @@ pub fn top<F: Shelf, K: Sink>(alloc: Global, words: &Vec<String>, shelf: &mut F,
     // is, byte for byte, the answer's text.
     ensures answered { (files : Files) → F.files shelf.old ≡ Some files → gives_up result ≡ false
         → IsAnswered files (words_in words.now.items) result (K.taken sink.old) (K.taken sink.new) }
-    // The same for words that name no file, also if the files of the shelf are not known.
+    // The same for words that name no file, even if the files of the shelf are not known.
     ensures alone { names_file (form_of (words_in words.now.items)) ≡ false
         → gives_up result ≡ false → (files : Files)
         → IsAnswered files (words_in words.now.items) result (K.taken sink.old) (K.taken sink.new) }
-    // Status 1 comes exactly for words of no form, also if the files of the shelf are not known.
+    // Status 1 comes exactly for words of no form, even if the files of the shelf are not known.
     ensures usage { gives_up result ≡ false
         → nat_eq result 1 ≡ is_none (form_of (words_in words.now.items)) }
 
-    // Status 3 comes only if the words name a file and the shelf failed. Nothing was taken, or the
-    // text ends before a command that reads a file.
+    // Status 3 comes only if the words name a file and the shelf failed. Nothing was taken then, or
+    // the text ends before a command that reads a file.
     ensures shelf_named { result ≡ 3 → names_file (form_of (words_in words.now.items)) ≡ true }
     ensures shelf_failed { result ≡ 3 → Rose (F.faults shelf.old) (F.faults shelf.new) }
     ensures shelf_cuts { (files : Files) → F.files shelf.old ≡ Some files → result ≡ 3
@@ -77,8 +77,8 @@ pub fn top<F: Shelf, K: Sink>(alloc: Global, words: &Vec<String>, shelf: &mut F,
     }
 }
 
-/// The program over a shelf and a sink in memory, neither of which fails, with room for the whole
-/// text: it gives its answer, unless it is out of memory.
+/// The program over a shelf and a sink in memory. Neither of them fails, and there is room for the
+/// whole text. The program gives its answer, unless it is out of memory.
 pub fn top_in_memory(
     alloc: Global,
     words: &Vec<String>,

@@ -77,8 +77,8 @@ fn size_in(word: &str) -> Option<u32>
     }
 }
 
-/// The number that at most three decimal digits write, if the word has no other byte and one digit
-/// at least.
+/// The number that at most three decimal digits write, if the word has at least one digit and no
+/// other byte.
 fn number_in(word: &str) -> Option<u32>
     requires { length word.now ≤ 3 }
     ensures { result ≡ numeral 10 word.now }

@@ -19,7 +19,7 @@ any_on test i count less fails = rw (rest_of i count less, fails) refl
 pub any_here : (test : ℕ → Bool) (i count : ℕ) → i < count → test i ≡ true → list_any test (range_with_len i (count - i)) ≡ true
 any_here test i count less holds = rw (rest_of i count less, holds) refl
 
--- the first that passes a test
+-- the first number that passes a test
 pub find_on : (test : ℕ → Bool) (i count : ℕ) → i < count → test i ≡ false → find test (range_with_len i (count - i)) ≡ find test (range_with_len (i + 1) (count - (i + 1)))
 find_on test i count less fails = rw (rest_of i count less, fails) refl
 

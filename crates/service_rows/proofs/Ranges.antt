@@ -1,5 +1,5 @@
--- Lists of numbers that a loop goes through: the rest from a number on is that number and the rest after
--- it.
+-- Lists of numbers that a loop goes through: the rest of a list from a number on is that number, followed by the rest
+-- after it.
 use Rattle.std.proofs.Common.{◌≡◌, ◌+◌, ◌-◌, ◌<◌, ℕ, suc, ◌∷◌, refl, arith}
 use Rattle.std.specs.List.{range_with_len}
 

@@ -17,7 +17,8 @@ pub fn slot_at(list: u64, i: u64) -> u64
     list.wrapping_add(8 * i)
 }
 
-/// How many handles come before the 0 that ends a list, or `None` if none of so many slots has a 0.
+/// How many handles come before the 0 that ends a list, or `None` if none of the first `slots` slots has
+/// a 0.
 #[tactic(auto, unfolding(service_model::specs::Connecting::first_without))]
 fn length_within(slots: u64, list: u64, w: &World) -> Result<Option<u64>, Stop>
     requires { slots ≤ CONTEXT_SLOTS }
@@ -59,8 +60,8 @@ fn is_at_end(path: u64, w: &World) -> bool
     path != 0 && w.read(path, 2) == Some(END_NODE)
 }
 
-/// ConnectController: the handles of drivers begin at `list`, 8 bytes each, and end at a 0; `path` is the
-/// remaining device path. The service goes on with them.
+/// ConnectController: the list of driver handles begins at `list`, has 8 bytes for each, and ends at a 0.
+/// `path` is the remaining device path. The service goes on with these handles and this path.
 ///
 /// # Errors
 ///

@@ -5,7 +5,7 @@
 //! the table of services with their prices. The rows are written in the words of `words`, which later
 //! tables of services use too. `rows` has the services on memory and on the task priority level,
 //! `protocols` those on protocols, `many` those on several pairs, and `connecting` ConnectController and
-//! DisconnectController. `second_look` is what OpenProtocol does after it had a driver disconnected.
+//! DisconnectController. `second_look` is what OpenProtocol does after a driver was disconnected for it.
 #![tactic(auto)]
 
 pub mod connecting;

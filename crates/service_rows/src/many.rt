@@ -1,5 +1,5 @@
 //! InstallMultipleProtocolInterfaces and UninstallMultipleProtocolInterfaces (UEFI 2.8, 7.3): the pairs after
-//! their first argument, and what refuses them.
+//! their first argument, and why they are refused.
 ghost use Rattle.std.specs.Prelude.{◌≡◌, ◌≤◌, ◌+◌, length, suc, IfOk};
 ghost use Rattle.std.specs.List.{range_with_len};
 ghost use Rattle.handle_db.specs.Database.{interfaces_of};
@@ -36,8 +36,8 @@ fn interface_place(list: u64, i: u64) -> u64
     list.wrapping_add(16 * i + 8)
 }
 
-/// How many pairs come before a 0, and whether one follows them. `done` pairs were read before, and at most
-/// so many more are read.
+/// How many pairs come before a 0, and whether a 0 follows them. `done` pairs were read before, and at most
+/// `most` more are read.
 #[cycle(pairs)]
 #[tactic(auto, unfolding(service_model::specs::Many::pairs_before), using(crate::proofs::CountingDown::one_less))]
 fn pairs_before(most: u64, done: u64, list: u64, w: &World) -> Result<(u64, bool), Stop>
@@ -52,7 +52,7 @@ fn pairs_before(most: u64, done: u64, list: u64, w: &World) -> Result<(u64, bool
     pair_before(most - 1, done, list, w)
 }
 
-/// The same if one more at least is read.
+/// The same, if at least one more pair may be read.
 #[cycle(pairs)]
 #[tactic(auto, unfolding(service_model::specs::Many::pairs_before))]
 fn pair_before(less: u64, done: u64, list: u64, w: &World) -> Result<(u64, bool), Stop>
@@ -127,7 +127,7 @@ fn names_readable(list: u64, count: u64, w: &World) -> Result<(), Stop>
     Ok(())
 }
 
-/// Whether a pair has a GUID.
+/// Whether the GUID of a pair is `name`.
 fn is_named(name: Guid, list: u64, i: u64, w: &World) -> bool
     requires { i ≤ MOST_PAIRS }
     ensures { result ≡ is_named name (pair_name list i w.now.now) }
@@ -138,7 +138,7 @@ fn is_named(name: Guid, list: u64, i: u64, w: &World) -> bool
     }
 }
 
-/// Whether one of the first pairs has a GUID.
+/// Whether the GUID of one of the first `seen` pairs is `name`.
 fn is_seen(name: Guid, list: u64, seen: u64, w: &World) -> bool
     requires { seen ≤ MOST_PAIRS }
     ensures { result ≡ is_seen name list seen w.now.now }
@@ -158,7 +158,7 @@ fn interface_count(handle: Handle, w: &World) -> usize
     w.db().interface_count(handle)
 }
 
-/// Whether a limit is met if so many are installed before.
+/// Whether a limit is met if `seen` pairs are installed before.
 fn no_room(handle: Option<Handle>, seen: u64, w: &World) -> bool
     requires { seen ≤ MOST_PAIRS }
     ensures { result ≡ no_room handle seen w.now.now }
@@ -193,7 +193,7 @@ fn all_fit(handle: &Option<Handle>, list: u64, count: u64, w: &World) -> Result<
     Ok(())
 }
 
-/// The handle that is given. Without pairs it is not looked at.
+/// The handle whose number is given. The number is not looked at if there are no pairs.
 fn handle_for(given: u64, count: u64, w: &World) -> Result<Option<Handle>, Stop>
     ensures { result ≡ handle_for given count w.now.now }
 {
@@ -257,8 +257,8 @@ fn all_installed_on(handle: Handle, list: u64, count: u64, w: &World) -> Result<
     Ok(())
 }
 
-/// UninstallMultipleProtocolInterfaces: the pairs begin at `list`. The service goes on with pairs that are
-/// all there.
+/// UninstallMultipleProtocolInterfaces: the pairs begin at `list`. The handle must have all of these pairs,
+/// and then the service goes on with them.
 ///
 /// # Errors
 ///

@@ -50,8 +50,8 @@ pub fn install(
     })
 }
 
-/// Whether an interface has an open record with one of some bits, and of an agent and for a controller if
-/// they are given.
+/// Whether an interface has an open record with one of these attribute bits. If an agent or a controller is
+/// given, the record must also be of that agent and for that controller.
 pub fn has_record(
     handle: Handle,
     name: Guid,
@@ -65,7 +65,7 @@ pub fn has_record(
     w.entries().has_meant(handle, name, agent, controller, bits)
 }
 
-/// UninstallProtocolInterface: the service goes on with an interface that is there.
+/// UninstallProtocolInterface: the handle must have the interface, and then the service goes on with it.
 ///
 /// # Errors
 ///
@@ -113,7 +113,7 @@ pub fn out_size(bits: u32) -> u64
     if bits == Attr::TEST_PROTOCOL { 0 } else { 8 }
 }
 
-/// What an open ends with, by what the records of the interface say. The agent and the controller are live
+/// What an open ends with, by the verdict of the interface's records. The agent and the controller are live
 /// or 0.
 fn change_for_verdict(
     verdict: Verdict,
@@ -148,7 +148,7 @@ fn change_for_verdict(
     }
 }
 
-/// What an open of an interface that is there ends with. The agent and the controller are live or 0.
+/// What an open of an installed interface ends with. The agent and the controller are live or 0.
 fn open_by_records(
     o: &Opening,
     agent: u64,
@@ -171,7 +171,7 @@ fn open_by_records(
     change_for_verdict(verdict, o, agent, controller, interface)
 }
 
-/// What an open ends with, by the interface that is found.
+/// What an open ends with, by the interface that was found.
 fn open_by_interface(found: Option<(u64, Handle)>, o: &Opening, w: &World) -> Result<Change, Stop>
     ensures { result ≡ open_by_interface found o.now w.now.now }
 {
@@ -191,9 +191,9 @@ fn open_by_interface(found: Option<(u64, Handle)>, o: &Opening, w: &World) -> Re
 ///
 /// # Errors
 ///
-/// `Status` with INVALID_PARAMETER if a pointer is NULL that is needed, the handle is dead, the attributes
-/// are not legal, the agent or the controller is dead with attributes that need it, or a handle is opened
-/// for itself as a child; with ACCESS_DENIED if a record keeps the open out. `Trap` with `Memory` if the GUID
+/// `Status` with INVALID_PARAMETER if a pointer that is needed is NULL, the handle is dead, the attributes
+/// are not legal, the agent or the controller is dead with attributes that need it, or a handle is opened for
+/// itself as a child; with ACCESS_DENIED if an open record forbids the open. `Trap` with `Memory` if the GUID
 /// can't be read or `out` can't be written.
 pub fn open_protocol(
     given: u64,
@@ -238,11 +238,11 @@ pub fn open_protocol(
     open_by_interface(w.db().interface(handle, guid), &o, w)
 }
 
-/// HandleProtocol opens as the firmware does, for no controller.
+/// HandleProtocol: opens the interface with the firmware as the agent, and for no controller.
 ///
 /// # Errors
 ///
-/// As `open_protocol` with BY_HANDLE_PROTOCOL.
+/// Those of `open_protocol` with BY_HANDLE_PROTOCOL.
 pub fn handle_protocol(given: u64, guid_at: u64, out: u64, w: &World) -> Result<Change, Stop>
     ensures { result ≡ handle_protocol given guid_at out w.now.now }
 {
@@ -392,7 +392,7 @@ fn how_many(name: &Option<Guid>, w: &World) -> u64
     u64::from(w.db().count_with(*name))
 }
 
-/// The handles if the buffer that is given has room for the bytes that they need; else that size.
+/// The handles if the buffer that is given has room for the bytes that they need; otherwise that size.
 fn handles_in_buffer(
     given: u64,
     name: Option<Guid>,
@@ -474,7 +474,7 @@ pub fn locate_handle_buffer(
     })
 }
 
-/// What LocateProtocol ends with, by the interface that is found.
+/// What LocateProtocol ends with, by the interface that was found.
 fn change_for_found(found: Option<(u64, Handle)>, out: u64) -> Result<Change, Stop>
     ensures { result ≡ change_for_found found out }
 {

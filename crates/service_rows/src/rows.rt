@@ -8,7 +8,7 @@ use fw_world::World;
 use service_model::{Change, Stop, TPL_HIGH_LEVEL};
 
 /// RaiseTPL (UEFI 2.8, 7.1): sets the level unless it would fall or pass the highest one, and answers the
-/// level of before.
+/// previous level.
 ///
 /// # Errors
 ///
@@ -62,14 +62,14 @@ pub fn allocate_pool(size: u64, out: u64, w: &World) -> Result<Change, Stop>
 ///
 /// # Errors
 ///
-/// None. Whether a block begins at the address is asked when the change is applied.
+/// None. Whether a block begins at the address is checked when the change is applied.
 pub fn free_pool(at: u64, w: &World) -> Result<Change, Stop>
     ensures { result ≡ free_pool at w.now.now }
 {
     Ok(Change::Free { at })
 }
 
-/// Stall (UEFI 2.8, 7.5): nothing waits for the time of the machine.
+/// Stall (UEFI 2.8, 7.5): returns at once, since nothing here depends on real time.
 ///
 /// # Errors
 ///
@@ -80,7 +80,7 @@ pub fn stall(w: &World) -> Result<Change, Stop>
     Ok(Change::Value(Status::SUCCESS.0))
 }
 
-/// CopyMem (UEFI 2.8, 7.5): `n` bytes, as if through a buffer apart from both.
+/// CopyMem (UEFI 2.8, 7.5): copies `n` bytes, as if through a separate buffer.
 ///
 /// # Errors
 ///
@@ -93,7 +93,7 @@ pub fn copy_mem(to: u64, from: u64, n: u64, w: &World) -> Result<Change, Stop>
     Ok(Change::Copy { to, from, n })
 }
 
-/// SetMem (UEFI 2.8, 7.5): `n` bytes, all set to one value.
+/// SetMem (UEFI 2.8, 7.5): sets `n` bytes, all to one value.
 ///
 /// # Errors
 ///

@@ -8,7 +8,7 @@ use fw_types::{Attr, Handle, Status};
 use fw_world::World;
 use service_model::{Change, Opening, Stop};
 
-/// What the open ends with, by the interface that is found now.
+/// What the open ends with, by the interface that was found now.
 fn open_after_removal(found: Option<(u64, Handle)>, o: &Opening, w: &World) -> Result<Change, Stop>
     ensures { result ≡ open_after_removal found o.now w.now.now }
 {
@@ -35,7 +35,8 @@ fn open_after_removal(found: Option<(u64, Handle)>, o: &Opening, w: &World) -> R
     })
 }
 
-/// Looks at an open again, as the arguments were first read, after the driver in its way was disconnected.
+/// Looks at an open again, with the arguments as they were first read, after the driver in its way was
+/// disconnected.
 ///
 /// # Errors
 ///

@@ -92,7 +92,7 @@ pub fn guid(at: u64, w: &World) -> Result<Guid, Stop>
     Ok(Guid::from_guest(&bytes))
 }
 
-/// Whether a number is that of no live handle.
+/// Whether no live handle has a number.
 pub fn dead(handle: u64, w: &World) -> bool
     ensures { result ≡ dead handle w.now.now }
 {
@@ -103,7 +103,7 @@ pub fn dead(handle: u64, w: &World) -> bool
 ///
 /// # Errors
 ///
-/// `Status` with the status that is given if no live handle has the number.
+/// `Status` with the given status if no live handle has the number.
 pub fn alive(handle: u64, status: Status, w: &World) -> Result<Handle, Stop>
     ensures { result ≡ alive handle status w.now.now }
 {

@@ -1,4 +1,4 @@
--- A call goes down a level, or down the order of the functions at one level.
+-- Each call goes down a level, or down the order of the functions at one level.
 use Rattle.std.proofs.Common.{◌≡◌, ◌≤◌, ◌+◌, ◌*◌, false, [], length, drop}
 use Rattle.world_model.specs.Marks.{stacks}
 use Rattle.driver_model.specs.Moves.{plain}
@@ -113,7 +113,8 @@ decreases-stop_turn::take_stop_turn l = 32 * l.room + 20
 abbrev pub decreases-disconnection::stop_drivers : goal.decreases-disconnection::stop_drivers
 decreases-disconnection::stop_drivers l = 32 * l.room + 21
 
--- ---- loops: what is left from here comes to the whole, and beside it the world is as it was
+-- ---- loops: doing what is left from here on gives the same as doing all of it; the marks and the stacks are as they
+-- were
 
 abbrev pub decreases-bus_driver::process_below_last : goal.decreases-bus_driver::process_below_last
 decreases-bus_driver::process_below_last l = 32 * l.room + 1
@@ -244,7 +245,7 @@ invariant-bus_driver::stop_bus-loop-child l = record {
   events : length l.fn.world.now.hard.events ≤ length l.world.now.hard.events;
 }
 
--- each turn after which the run goes on, and each search that finds a driver, costs units
+-- each turn after which the run goes on costs units, and so does each search that finds a driver
 abbrev pub decreases-guest_run::run_code-turns : goal.decreases-guest_run::run_code-turns
 decreases-guest_run::run_code-turns l = l.world.now.hard.units
 

@@ -5,7 +5,7 @@ use Rattle.bind_engine.specs.Machine.{IsIdle}
 use Rattle.bind_engine.specs.RomLoad.{no_images, with_images}
 use Rattle.bind_engine.proofs.rom_load.load_images.Given as goal
 
--- to load the images that are left is to load all images from the beginning
+-- loading the images that are left gives the same as loading all images from the beginning
 abbrev pub invariant-loop-image : goal.invariant-loop-image
 invariant-loop-image l = record {
   done : with_images l.settings l.walk.images (l.tally, l.world.now) ≡ with_images l.fn.settings (rom_in l.file).images (no_images, l.initial.world.now);

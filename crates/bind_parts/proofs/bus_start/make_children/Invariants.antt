@@ -6,7 +6,7 @@ use Rattle.driver_model.specs.Moves.{plain}
 use Rattle.driver_model.specs.BusDriver.{children_made}
 use Rattle.bind_parts.proofs.bus_start.make_children.Given as goal
 
--- to make those that are left from here is to make all
+-- making the children that are left from here on gives the same as making all of them
 abbrev pub invariant-loop-number : goal.invariant-loop-number
 invariant-loop-number l = record {
   rest : children_made plain l.root (drop l.number-index l.numbers) l.children.items l.world.now ≡ children_made plain l.fn.root l.fn.numbers [] l.fn.world.now;

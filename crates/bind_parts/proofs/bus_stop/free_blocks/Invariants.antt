@@ -4,7 +4,7 @@ use Rattle.driver_model.specs.Moves.{plain}
 use Rattle.driver_model.specs.BusDriver.{blocks_freed}
 use Rattle.bind_parts.proofs.bus_stop.free_blocks.Given as goal
 
--- to free those that are left from here is to free all
+-- freeing the blocks that are left from here on gives the same as freeing all of them
 abbrev pub invariant-loop-i : goal.invariant-loop-i
 invariant-loop-i l = record {
   rest : blocks_freed plain (drop l.i-index l.interfaces) l.world.now ≡ blocks_freed plain l.fn.interfaces l.fn.world.now;

@@ -5,6 +5,6 @@ use Rattle.std.specs.BTreeSet.{contains}
 use Rattle.driver_model.specs.declared.binding.BindingBlock.{BindingBlock}
 use Rattle.bind_plan.proofs.handle_set.drivers_outside.Given as goal
 
--- those of the drivers so far
+-- the drivers so far that are outside the set
 abbrev pub invariant-loop-block : goal.invariant-loop-block
 invariant-loop-block l = l.others.items ≡ filter (λ (block : BindingBlock). not (contains nat_cmp l.handles block.handle)) (take l.block-index l.blocks)

@@ -4,7 +4,7 @@ use Rattle.world_model.specs.Marks.{older_marks, stacks}
 use Rattle.engine.proofs.Loads.{free_after_laying, on_ok, stacks_of_mark}
 use Rattle.engine.proofs.image_unload.call_handler.Goals as goal
 
--- nothing is laid between the mark and the call
+-- no image is laid between the mark and the call
 
 pub mark-mark-requires : goal.mark-mark-requires
 mark-mark-requires c = (c.marks_suffice.ensures.spare (c.args.room + 1) c.args.world.now.now.soft c.args.world.now.marks c.requires.marks).1

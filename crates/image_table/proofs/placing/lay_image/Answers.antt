@@ -7,7 +7,7 @@ use Rattle.world_model.specs.Images.{entry_of, image_added, is_image_full}
 use Rattle.world_model.proofs.ImageLaws.{found}
 use Rattle.image_table.proofs.placing.lay_image.Goals as goal
 
--- the handle that is given is the next one
+-- the handle that the image gets is the next one
 given : (full : Bool) (next image : ℕ) → ◌≡◌ {A = Result ℕ WorldFault} (if full then Err Full else Ok next) (Ok image) → image ≡ next
 given true next image answer = absurd cc
 given false next image answer = cc

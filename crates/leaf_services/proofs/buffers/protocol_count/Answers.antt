@@ -7,7 +7,7 @@ use Rattle.handle_db.specs.Database.{interfaces_in, is_handle, is_kept}
 use Rattle.handle_db.specs.declared.handle_entry.HandleEntry.{HandleEntry}
 use Rattle.leaf_services.proofs.buffers.protocol_count.Goals as goal
 
--- a handle has no more interfaces than it may have
+-- a handle has at most `MOST_INTERFACES` interfaces
 few : (handle : ℕ) (entries : List HandleEntry) → list_all is_kept entries ≡ true → length (interfaces_in (find (is_handle handle) entries)) ≤ MOST_INTERFACES
 few handle [] kept = omega arith
 few handle (entry ∷ entries) kept =

@@ -1,7 +1,8 @@
 use Rattle.std.proofs.Common.{◌+◌, ◌*◌}
 use Rattle.pci_bus.proofs.path.+way.Given as goal
 
--- the first function calls the second with one less, that the third with the same, and that the first with the same
+-- the first function calls the second with one less, the second calls the third with the same, and the third calls the
+-- first with the same
 abbrev pub decreases-way_nodes : goal.decreases-way_nodes
 decreases-way_nodes l = 3 * l.most
 

@@ -19,7 +19,7 @@ returns-in-Err-Memory-clause-memory_cuts g c = λ files known e.
     let ends : Ends files (words_in c.args.words.now.items) (Err Memory) (g.K.Sink.taken c.args.sink.now) (g.K.Sink.taken c.respond.new.sink) = rw c.in-Err-Memory.field-0-is at (c.in-Err-Memory.ensures.taken files known) in
     ends
 
--- what a shelf becomes has the same files, and no count of faults falls
+-- the shelf has the same files afterwards, and no count of faults falls
 pub returns-in-Ok-clause-same_files : goal.returns-in-Ok-clause-same_files
 returns-in-Ok-clause-same_files g c = g.met.F.Shelf.becomes_files _ _ c.in-Ok.ensures.becomes.0
 

@@ -1,7 +1,7 @@
 use Rattle.std.proofs.Common.{◌+◌, ◌*◌}
 use Rattle.service_rows.proofs.many.+pairs.Given as goal
 
--- the first function of the two calls the second with one less, and that the first with the same
+-- the first of the two functions calls the second with one less, and the second calls the first with the same number
 abbrev pub decreases-pairs_before : goal.decreases-pairs_before
 decreases-pairs_before l = 2 * l.most
 

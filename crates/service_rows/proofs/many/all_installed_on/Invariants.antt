@@ -4,7 +4,7 @@ use Rattle.service_model.specs.Words.{each}
 use Rattle.service_model.specs.Many.{pair_installed_on}
 use Rattle.service_rows.proofs.many.all_installed_on.Given as goal
 
--- the rest from here is the whole from the start
+-- the answer for the rest from here on is the answer for the whole list
 abbrev pub invariant-loop-i : goal.invariant-loop-i
 invariant-loop-i l =
     each (pair_installed_on l.handle l.list l.w.now) (range_with_len l.i (l.count - l.i)) ≡ each (pair_installed_on l.handle l.list l.w.now) (range_with_len 0 l.count)

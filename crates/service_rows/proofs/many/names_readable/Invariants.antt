@@ -4,7 +4,7 @@ use Rattle.service_model.specs.Words.{each}
 use Rattle.service_model.specs.Many.{name_readable}
 use Rattle.service_rows.proofs.many.names_readable.Given as goal
 
--- the rest from here is the whole from the start
+-- the answer for the rest from here on is the answer for the whole list
 abbrev pub invariant-loop-i : goal.invariant-loop-i
 invariant-loop-i l =
     each (name_readable l.list l.w.now) (range_with_len l.i (l.count - l.i)) ≡ each (name_readable l.list l.w.now) (range_with_len 0 l.count)
