@@ -1,6 +1,6 @@
--- The moves of a machine: each change that activations, driver calls and runs make, as a word. The definitions of
--- this crate say which moves are made, and in what order. What a machine is made of is left open in them, so that the
--- same text can be read of the state alone, and of a state with the story of its moves.
+-- The moves of a machine: each change that activations, driver calls and runs make, as a word. The definitions of this
+-- crate say which moves are made, and in what order. They leave open what a machine is made of. So the same text
+-- applies to the state alone, and to a state with the history of its moves.
 use Rattle.std.specs.Prelude.{ℕ, List}
 use Rattle.fw_types.specs.declared.event.EventKind.{EventKind}
 use Rattle.fw_types.specs.declared.event.Outcome.{Outcome}
@@ -40,7 +40,7 @@ pub data Move : Type 0 where
   -- the stack of a driver call or of a thunk
   pushes : (level : ℕ) → (slots children : List ℕ) → Move
   pops : (level : ℕ) → Move
-  -- the end of a driver call: the task priority level of before, and an undo
+  -- the end of a driver call: the task priority level that was there before, and an undo
   sets_tpl : ℕ → Move
   puts_back : Soft → Move
   -- open records and interfaces
