@@ -1,4 +1,4 @@
-//! The soft part: the type, its blocks and its ranges of bytes. Its other calls stand in the files of this
+//! The soft part: the type, its blocks and its ranges of bytes. Its other calls are in the files of this
 //! module, by subject.
 ghost use Rattle.std.specs.Prelude.{◌≡◌, ◌≤◌, true, IfOk, OnErr, OnOk, length, replicate, take, Ok};
 ghost use Rattle.guest_memory.specs.Segment.{is_access, is_block};
@@ -32,8 +32,8 @@ use std::alloc::Global;
 use std::marker::Model;
 use world_model::WorldFault;
 
-/// What an undo puts back: the memory of drivers, the handle database, the open records and the
-/// plain fields beside them.
+/// What an undo puts back: the memory of drivers, the handle database, the open records and the plain
+/// fields.
 #[derive(Drop)]
 pub struct SoftPart {
     alloc: Global,
@@ -214,7 +214,7 @@ impl SoftPart {
         self.memory.bytes(at, n)
     }
 
-    /// The `n` bytes from an address on, and zeros after them; zeros alone if they can't be read.
+    /// The `n` bytes from an address on, and zeros after them; only zeros if they can't be read.
     #[inline]
     pub fn word(&self, at: u64, n: u8) -> [u8; 8]
         requires { is_access n ≡ true }

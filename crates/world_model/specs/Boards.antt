@@ -74,7 +74,7 @@ RootsAreThere =
     (functions : ℕ) (bridges : List (ℕ × ℕ)) (place : ℕ) (bridge : ℕ × ℕ) → slice_get bridges place ≡ Some bridge
     → HasRoot (first_root + place) (FIRST_BLOCK + 16 * place) bridge.0 (opening_soft functions bridges)
 
--- beside them there are the handles of the firmware and of the bus driver
+-- the only other handles are those of the firmware and of the bus driver
 abbrev pub OpeningHandles : Type 0
 OpeningHandles =
     (functions : ℕ) (bridges : List (ℕ × ℕ)) → handles_with None (opening_soft functions bridges).database ≡ range_with_len 1 (2 + length bridges)
