@@ -15,7 +15,7 @@ use Rattle.ebc_asm.specs.declared.fault.AsmKind.{AsmKind}
 use Rattle.ebc_asm.specs.declared.fault.AsmKind.TheVariants as kind
 use Rattle.report_text.specs.Report.{end_word, hex, line, refusal_word}
 
--- words of none of the forms
+-- the line for words that have none of the forms
 abbrev pub usage_line : List ℕ
 usage_line = codes "usage: asm LISTING [ENTRY], rom VENDOR DEVICE CLASS FILE..., walk ROM, look IMAGE" ++ 10 ∷ []
 
