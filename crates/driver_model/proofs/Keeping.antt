@@ -70,8 +70,9 @@ use Rattle.driver_model.specs.declared.request.Remover.{Remover}
 use Rattle.driver_model.specs.declared.request.Remover.TheVariants.{TheFirmware, ADriver}
 use Rattle.driver_model.specs.declared.settings.Settings.{Settings}
 
--- A relation between a machine and a later one, at a level, which each move keeps that can be made. Lists of
--- children are such that the relation allows, of which `few` tells.
+-- A relation between a machine and a later one, at a level, that each move keeps if it can be made. The
+-- lists of children are those that `is_listable` accepts; by `few`, the children that are stopped may be
+-- taken to be such a list.
 pub record KeepsMoves {S : Type 0} (o : Operations S) (is_listable : List ℕ → Bool) (R : (level : ℕ) → S → S → Type 0) : Type 0 where
   -- a move is seen as a change
   pub sees : (move : Move) (w : S) → o.see (o.make move w) ≡ changed move (o.see w)

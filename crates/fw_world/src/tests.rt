@@ -291,7 +291,7 @@ fn shows_frame(rt: &impl Abort, world: &World) {
     assert_eq!(rt; world.read(0x82_0000, 1), None);
 }
 
-/// A list of children beside a stack. They are removed together.
+/// A list of children next to a stack. They are removed together.
 #[test]
 fn list_of_children(rt: HostRuntime) -> Result<(), Fail> {
     let mut world = World::new(rt.alloc(), Board::empty(rt.alloc()), Vec::new(rt.alloc()))?;

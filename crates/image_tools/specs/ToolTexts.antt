@@ -129,7 +129,7 @@ unfoldable pub section_line : Section → List ℕ
 section_line section =
     codes "section " ++ 34 ∷ shown_name section.name ++ 34 ∷ [] ++ image_fields section ++ file_fields section ++ 10 ∷ []
 
--- what an accepted image says of itself
+-- what an accepted image says about itself
 abbrev pub image_text : List ℕ → List ℕ
 image_text file =
     line (codes "subsystem" ∷ decimal (subsystem_of file) ∷ [])

@@ -33,7 +33,7 @@ words_in words = map string_bytes words
 
 -- What the words ask for, with names of files: the image of a listing, entered at a label if one is given;
 -- an option ROM of files, for a vendor, a device and a class; the images of an option ROM; or what an image
--- says of itself.
+-- says about itself.
 pub data Form : Type 0 where
   asm : List ℕ → Option (List ℕ) → Form
   rom : ℕ → ℕ → ℕ → List (List ℕ) → Form

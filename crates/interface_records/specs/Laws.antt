@@ -14,6 +14,6 @@ PutIsNew = (taken : Taken) (records : List Rec) → stand_apart (put_again taken
 abbrev pub PutIsOneMore : Type 0
 PutIsOneMore = (taken : Taken) (records : List Rec) → length (put_again taken records) ≡ length records + 1
 
--- of records of which none excludes another, each is new beside those before it
+-- of records of which none excludes another, each is new among those before it
 abbrev pub EachIsNew : Type 0
 EachIsNew = (before : List Rec) (rec : Rec) (later : List Rec) → stand_apart (before ++ rec ∷ later) ≡ true → IsNew rec before

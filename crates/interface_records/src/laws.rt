@@ -9,7 +9,7 @@ pub fn records_put_in_again()
     ensures one_more { PutIsOneMore }
 {}
 
-/// Of records of which none excludes another, each is new beside those before it.
+/// Of records of which none excludes another, each is new among those before it.
 pub fn records_stand_apart()
     ensures { EachIsNew }
 {}

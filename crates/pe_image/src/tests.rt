@@ -240,7 +240,7 @@ const RELOCATIONS: [(&[Change], Option<PeRefusal>); 29] = [
     (&[(0x20C, 0x08), (0xF4, 0x08)], None),
     (&[(0x20C, 0x09)], Some(PeRefusal::Reloc)),
     (&[(0x20C, 0x0C)], Some(PeRefusal::Reloc)),
-    // a rule on relocations comes in front of the entry point's
+    // a rule on relocations comes before that on the entry point
     (&[(0x210, 0xF9), (0x68, 0x01)], Some(PeRefusal::Reloc)),
 ];
 

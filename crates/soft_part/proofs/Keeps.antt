@@ -105,7 +105,7 @@ remove_done db handle guid address owner has = by_entry (find (is_handle handle)
 
 -- ---- images
 
--- with a handle alone
+-- with only a handle
 pub kept_handle : (soft : Soft) (new : Interface) (memory : List Segment) (db : Database) (images : List LoadedImage) → IsKept soft → is_database_full soft.database ≡ false
     → memory ≡ soft.memory → db ≡ installed None new soft.database → images ≡ soft.images → IsKept (record soft { memory = memory; database = db; images = images })
 kept_handle soft new memory db images kept room memory_is db_is images_is =

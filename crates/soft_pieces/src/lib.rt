@@ -5,7 +5,8 @@
 //! - `mapping`: mapping that nothing refuses, of an image too, with its handle; `addresses`: how far the
 //!   addresses of blocks and images rise.
 //! - `images`: the images that are loaded, and what is removed with one and comes back; `image_block`:
-//!   what a loaded image block says of an image; `thunks`: the live thunks, by number and by address.
+//!   what a loaded image block says about an image; `thunks`: the live thunks, by number and by
+//!   address.
 //! - `stack`: what a driver call finds on its stack, and the list of children that a Stop is given.
 //! - `opens`: the open records that are removed with an interface, a handle or an image, and come back.
 //! - `bus_children`: the children of the bus, and the bus lists of the board's functions.
