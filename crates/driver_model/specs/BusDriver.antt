@@ -8,7 +8,7 @@
 --     with PCI I/O and, if it has an option ROM, with the bus specific driver override. Root bridge I/O is opened
 --     BY_CHILD_CONTROLLER for the handle. OUT_OF_RESOURCES at a limit (`children_made`).
 --  3. Unless this is the last level, the new children are taken in turn for their option ROMs. A child is passed over if
---     it is not live at its turn, and if its function has no option ROM or one that was processed. Otherwise the drivers
+--     it is not live at its turn, or if its function has no option ROM or one that was processed. Otherwise the drivers
 --     of the option ROM are loaded in order, with the child as their device. Those that stay loaded are the bus list of
 --     the function, and its option ROM is processed then (`roms_processed`).
 --  4. SUCCESS.

@@ -36,7 +36,7 @@ UncommittedCallsLeave =
     → commits call.kind (outcome_of_call settings room scope call children w) ≡ false
     → (left_by_call settings room scope call children w).soft ≡ w.soft
 
--- Supported always does.
+-- Supported always leaves the soft part as it was.
 abbrev pub SupportedLeaves : Type 0
 SupportedLeaves =
     (settings : Settings) (room : ℕ) (scope : Scope) (call : Call) (children : List ℕ) (w : State) → call.kind ≡ Supported

@@ -108,8 +108,8 @@ module _ {S : Type 0} (o : Operations S) where
   searches (suc fuel) settings below scope c context marked any w =
       started below scope c (λ marked. searches fuel settings below scope c context marked) marked any (found settings below scope c context marked w)
 
-  -- all searches: each one that finds a driver costs units, so there are at most as many as units are left, and one
-  -- more
+  -- all searches: each one that finds a driver costs units, so there are at most as many searches as units left, plus
+  -- one
   abbrev pub search : Settings → Level S → Scope → Connection → (context marked : List ℕ) → (any : Bool) → S → Bool × S
   search settings below scope c context marked any w = searches (suc (o.see w).hard.units) settings below scope c context marked any w
 

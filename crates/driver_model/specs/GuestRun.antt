@@ -61,6 +61,6 @@ module _ {S : Type 0} (o : Operations S) where
   turns zero settings below scope level cpu w = (Over (Trapped Budget), w)
   turns (suc fuel) settings below scope level cpu w = after_turn (turns fuel settings below scope level) (turn settings below scope level cpu w)
 
-  -- all turns: each turn except the last costs a unit, so there are at most as many as units are left, and one more
+  -- all turns: each turn except the last costs a unit, so there are at most as many turns as units left, plus one
   unfoldable pub run : Settings → Option (Level S) → Scope → (level : ℕ) → Cpu → S → RunEnd × S
   run settings below scope level cpu w = turns (suc (o.see w).hard.units) settings below scope level cpu w

@@ -48,7 +48,7 @@ pub data Move : Type 0 where
   closes_child : (controller agent child : ℕ) → Move
   drops_weak : (handle : ℕ) → List ℕ → Move
   uninstalls : (handle : ℕ) → List ℕ → Move
-  -- images: one is added; one goes, with all that belongs to it
+  -- images: one is added; one is removed, with all that belongs to it
   adds_image : (bytes : List ℕ) → (entry subsystem device : ℕ) → Move
   drops_all : (image : ℕ) → Move
   -- the bus driver: it opens root bridge I/O; a child is made for a function; the images of an option ROM become the bus list

@@ -79,7 +79,7 @@ GoingOnCosts =
     → (turn plain settings (below plain settings room) scope level cpu w).end ≡ None
     → (turn plain settings (below plain settings room) scope level cpu w).world.hard.units < w.hard.units
 
--- to allow more turns than units are left changes nothing
+-- allowing more turns than units are left changes nothing
 abbrev pub MoreTurnsChangeNothing : Type 0
 MoreTurnsChangeNothing =
     (settings : Settings) (room : ℕ) (scope : Scope) (level fuel : ℕ) (cpu : Cpu) (w : State) → room ≤ MOST_LEVELS → w.hard.units < fuel

@@ -40,7 +40,7 @@ use Rattle.driver_model.specs.declared.settings.Settings.{Settings}
 abbrev pub SweepsStay : Type 0
 SweepsStay = (image : ℕ) (soft : Soft) → IsKept soft → Stays soft (image_swept image soft)
 
--- ---- what goes with an image
+-- ---- what is removed with an image
 
 -- whether an image owns an interface
 abbrev pub owns_any : (image : ℕ) → Database → Bool

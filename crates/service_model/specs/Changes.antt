@@ -1,4 +1,4 @@
--- What each change leaves of the state, and what the service answers with it.
+-- What state each change leaves, and what the service answers with it.
 use Rattle.std.specs.Prelude.{ℕ, zero, suc, ◌*◌, Bool, true, false, List, [], length, take, drop, replicate, Option, Some, None, unwrap_or, Result, Ok, Err}
 use Rattle.byteorder.specs.Endian.{little_bytes}
 use Rattle.handle_db.specs.Database.{handles_with}

@@ -61,7 +61,7 @@ has_marks spare left marks = nat_le (length marks + spare + 3 * left) most_open
 abbrev pub SparesAreEnough : Type 0
 SparesAreEnough = (left : ℕ) (marks : List Soft) → has_marks 2 left marks ≡ true → has_marks 0 left marks ≡ true
 
--- what has some to spare has fewer to spare
+-- what has some to spare also has any smaller number to spare
 abbrev pub FewerToSpare : Type 0
 FewerToSpare = (fewer spare left : ℕ) (marks : List Soft) → fewer ≤ spare → has_marks spare left marks ≡ true → has_marks fewer left marks ≡ true
 

@@ -197,7 +197,7 @@ NotedBesideStacks =
     (change : Change) (before after : Soft) (levels : StackLevels) → IsKept before → IsKept after → IsNoted change before after
     → (taken_back change (without_stacks (later_levels levels) after) ≡ without_stacks (later_levels levels) before) × CanTakeBack change (without_stacks (later_levels levels) after)
 
--- so can a change that can be taken back at all
+-- taking back a change that maps and unmaps nothing below the images gives the same without the stacks of later levels
 abbrev pub TakenBesideStacks : Type 0
 TakenBesideStacks =
     (change : Change) (soft : Soft) (levels : StackLevels) → IsKept soft → list_all (nat_le FIRST_IMAGE) (addresses_in change) ≡ true
