@@ -59,7 +59,7 @@ module _ {S : Type 0} (o : Operations S) where
       if is_bus_child_full controller function (o.see w) then (Err (Value OUT_OF_RESOURCES), w)
       else others (children ++ record { handle = (o.see w).soft.database.next; function = function } ∷ []) (o.make (adds_child controller function) w)
 
-  -- the same with the children of these functions after earlier ones; they are made in the order of their functions
+  -- the children of these functions, after earlier ones; they are made in the order of their functions
   unfoldable pub children_made : (controller : ℕ) → (numbers : List ℕ) → List NewChild → S → Result (List NewChild) Outcome × S
   children_made controller [] children w = (Ok children, w)
   children_made controller (number ∷ numbers) children w =

@@ -27,8 +27,8 @@ use Rattle.driver_model.specs.declared.settings.Settings.{Settings}
 abbrev pub without_result : Event → Event
 without_result event = record event { result = pending_outcome }
 
--- Units never rise. Events are only added: the earlier ones are still there, in their places, and unchanged, except
--- that one that had not ended may have ended. Each event that is added is paid with the price of a driver call.
+-- Units never rise. Events are only added: the earlier ones are still there, in their places, and unchanged except
+-- for their results. Each event that is added is paid with the price of a driver call.
 pub record Spends (old new : Hard) : Type 0 where
   pub falls : new.units ≤ old.units
   pub grows : length old.events ≤ length new.events

@@ -22,7 +22,7 @@ pub fn calls_leave()
 }
 
 /// What is spent, through all levels. Units never rise. Events are only added: the earlier ones are still there,
-/// in their places, and unchanged, except that one that had not ended may have ended. Each event is paid.
+/// in their places, and unchanged except for their results. Each event is paid.
 pub fn all_is_paid()
     ensures calls { CallsSpend }
     ensures runs { RunsSpend }

@@ -4,8 +4,8 @@
 ghost use Rattle.driver_model.specs.EarlyRefusal.{EarlyRefusalsChangeNothing};
 
 /// A list that reaches a pair that is refused, after pairs of interfaces without a record that is
-/// BY_CHILD_CONTROLLER, BY_DRIVER or EXCLUSIVE, is answered with INVALID_PARAMETER and changes nothing,
-/// units and events included.
+/// BY_CHILD_CONTROLLER, BY_DRIVER or EXCLUSIVE, is answered with INVALID_PARAMETER and changes
+/// nothing, units and events included.
 pub fn early_refusals_change_nothing()
     ensures { EarlyRefusalsChangeNothing }
 {}

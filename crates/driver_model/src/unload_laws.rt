@@ -25,8 +25,8 @@ pub fn unloads_stay()
     ensures thunks { ThunksEnterLoadedImages }
 {}
 
-/// The units never rise in an unload. Events are only added, and each one that is added is paid with
-/// the price of a driver call.
+/// The units never rise in an unload. Events are only added, and each one that is added is paid
+/// with the price of a driver call.
 pub fn unloads_spend()
     ensures { UnloadsSpend }
 {}

@@ -209,8 +209,8 @@ pub(crate) fn uninstall_pci(world: &mut World, handle: Handle) -> Result<(), DbR
     world.uninstall(handle, Guid::known(Known::PciIo))
 }
 
-/// When a handle is removed, so are the records that name it, on three other handles too. An undo puts
-/// the handle back with its interface, and each record at its place.
+/// When a handle is removed, so are the records that name it, on three other handles too. An undo
+/// puts the handle back with its interface, and each record at its place.
 #[test]
 fn undone_sweep(rt: HostRuntime) -> Result<(), Fail> {
     let mut world = opened(&rt)?;

@@ -86,8 +86,8 @@ fn of_four_handles(alloc: Global, owner: Handle) -> Result<Db, DbRefusal> {
     Ok(db)
 }
 
-/// What a database says about handles: which there are, which have a protocol, and how many; before and after
-/// one of them is removed.
+/// What a database says about handles: which there are, which have a protocol, and how many; before
+/// and after one of them is removed.
 #[test]
 fn handles_of_a_database(rt: HostRuntime) -> Result<(), Fail> {
     let owner = handle(&rt, 2);
@@ -156,8 +156,8 @@ impl Absent for Db {
     }
 }
 
-/// A database has no call that copies it, and is not Clone: otherwise these would not be the calls of
-/// `Absent`.
+/// A database has no call that copies it, and is not Clone: otherwise these would not be the calls
+/// of `Absent`.
 #[test]
 fn no_copies(rt: HostRuntime) -> Result<(), Fail> {
     let db = Db::new(rt.alloc(), 1);

@@ -2,8 +2,8 @@
 //! code.
 ghost use Rattle.interface_records.specs.Laws.{EachIsNew, PutIsNew, PutIsOneMore};
 
-/// A record that is put in again, so that afterwards no record excludes another, is new among the others, of
-/// which none excludes another. It is one more record.
+/// A record that is put in again, so that afterwards no record excludes another, is new among the
+/// others, of which none excludes another. It is one more record.
 pub fn records_put_in_again()
     ensures new { PutIsNew }
     ensures one_more { PutIsOneMore }

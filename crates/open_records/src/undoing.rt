@@ -48,8 +48,8 @@ pub enum Choice {
         /// The bits.
         bits: u32,
     },
-    /// All of an interface that is removed, and if its handle is removed with it, those that name the
-    /// handle.
+    /// All of an interface that is removed, and if its handle is removed with it, those that name
+    /// the handle.
     WithInterface {
         /// The handle that had the interface.
         handle: Handle,
@@ -93,7 +93,8 @@ impl Choice {
 }
 
 impl Choice {
-    /// What it picks among an interface's records: those that are meant, and those that name a handle.
+    /// What it picks among an interface's records: those that are meant, and those that name a
+    /// handle.
     pub(crate) fn asks(&self, owner: Handle, protocol: Guid) -> (Option<Meant>, Option<u64>)
         ensures { Asks (owner, protocol) result self.now }
     {

@@ -23,7 +23,7 @@ abbrev pub IsCopy : Option (List Rec) → List Rec → Type 0
 IsCopy None records = Unit {0}
 IsCopy (Some copy) records = copy ≡ lasting records
 
--- the copy, if it is still there, was there before, and is changed
+-- if there is still a copy, there was one before, and it has been changed in this way
 abbrev pub Follows : (List Rec → List Rec) → (old new : Option (List Rec)) → Type 0
 Follows change old None = Unit {0}
 Follows change None (Some new) = ⊥
@@ -42,7 +42,7 @@ abbrev pub IsPlace : Option Taken → Taken → List Rec → Type 0
 IsPlace None taken records = Unit {0}
 IsPlace (Some place) taken records = put_again place (lasting records) ≡ lasting (put_again taken records)
 
--- a record that was taken out of these records can be put in again, and so can it in a copy of those that stay
+-- a record that was taken out of these records can be put in again, and also in a copy of those that stay
 abbrev pub IsFit : Removed → List Rec → Type 0
 IsFit removed records = IsPlace removed.place removed.taken records
 

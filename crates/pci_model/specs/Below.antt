@@ -14,7 +14,7 @@ functions_within zero lines bus = []
 functions_within (suc most) lines bus =
     flat_map (λ number. number ∷ option_map_or (functions_within most lines) (secondary_of lines number) []) (functions_on lines bus)
 
--- all of them: the buses with functions below a bus that has functions are fewer than the functions
+-- all of them: a bus with functions has fewer buses with functions below it than there are functions
 abbrev pub functions_below : List BoardLine → (bus : ℕ) → List ℕ
 functions_below lines bus = functions_within (length (functions lines)) lines bus
 

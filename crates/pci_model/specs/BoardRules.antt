@@ -105,7 +105,7 @@ repeats_rom before line = option_map_or (has_rom before) (rom_location line) fal
 
 -- ---- the table
 
--- a test, and the fault of a line that fails it
+-- a test, and the fault of a line for which it holds
 pub record Rule : Type 0 where
   pub breaks : List BoardLine → BoardLine → Bool
   pub fault : LineFault

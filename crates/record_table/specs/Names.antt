@@ -56,7 +56,7 @@ StillNamed interfaces old new = AreNamed old interfaces → AreNamed new interfa
 
 -- ---- the two parts
 
--- none of some interfaces comes after another or is the same
+-- each of some interfaces comes before another
 abbrev pub NoneIn : Interface → set.BTreeSet Interface → Type 0
 NoneIn from interfaces = (interface : Interface) → is_lt (interface_cmp interface from) ≡ false → set.contains interface_cmp interfaces interface ≡ false
 

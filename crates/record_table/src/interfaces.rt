@@ -197,8 +197,8 @@ pub fn put_at(
     Ok(())
 }
 
-/// Takes out the weak records of an interface as one, if possible, and answers all the records that it
-/// had.
+/// Takes out the weak records of an interface as one, if possible, and answers all the records that
+/// it had.
 pub fn take_weak_at(
     interfaces: &mut Interfaces,
     handle: Handle,
@@ -226,8 +226,8 @@ fn take_weak_there(interfaces: &mut Interfaces, interface: Interface) -> Option<
     }
 }
 
-/// Prepares to take out the weak records of an interface as one, if that is worth it. `going` of them
-/// are taken out now.
+/// Prepares to take out the weak records of an interface as one, if that is worth it. `going` of
+/// them are taken out now.
 pub fn prepare_at(interfaces: &mut Interfaces, interface: Interface, going: usize)
     ensures { Changes interface (records_at interfaces.old interface) interfaces.old interfaces.new }
 {

@@ -196,9 +196,9 @@ impl Names {
     }
 
     /// If there are more than four times as many names as records, forgets each handle at the interfaces that
-    /// have no record which names it, and forgets the interfaces that were put back as a whole and have no
-    /// records. `len` is the number of all records. A record has at most two names, so half of the names or more
-    /// are forgotten then.
+    /// have no record which names it. In any case forgets the interfaces that were put back as a whole and have
+    /// no records. `len` is the number of all records. A record has at most two names, so if handles are
+    /// forgotten at all, half of the names or more are.
     pub fn tidy(&mut self, interfaces: &Interfaces, len: usize)
         ensures { StillNamed interfaces.now self.old self.new }
     {

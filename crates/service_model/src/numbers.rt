@@ -25,8 +25,8 @@ pub const CONTEXT_SLOTS: u64 = 64;
 /// The last width of PCI I/O (UEFI 2.8, 14.4: EFI_PCI_IO_PROTOCOL_WIDTH, EfiPciIoWidthFillUint64).
 pub const LAST_WIDTH: u32 = 11;
 
-/// The last width that is built (EfiPciIoWidthUint64). The others use one address or one element again
-/// and again.
+/// The last width that is built (EfiPciIoWidthUint64). The others use one address or one element
+/// again and again.
 pub const LAST_BUILT_WIDTH: u32 = 3;
 
 /// The price of Mem.Read, Mem.Write, Pci.Read and Pci.Write counts no more elements than these.

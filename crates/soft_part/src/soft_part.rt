@@ -1,5 +1,5 @@
-//! The soft part: the type, its blocks and its ranges of bytes. Its other calls are in the files of this
-//! module, by subject.
+//! The soft part: the type, its blocks and its ranges of bytes. Its other calls are in the files of
+//! this module, by subject.
 ghost use Rattle.std.specs.Prelude.{◌≡◌, ◌≤◌, true, IfOk, OnErr, OnOk, length, replicate, take, Ok};
 ghost use Rattle.guest_memory.specs.Segment.{is_access, is_block};
 ghost use Rattle.guest_memory.specs.GuestMemory.{beginning_at, bytes_of, is_readable, is_writable_range, put_bytes};
@@ -32,8 +32,8 @@ use std::alloc::Global;
 use std::marker::Model;
 use world_model::WorldFault;
 
-/// What an undo puts back: the memory of drivers, the handle database, the open records and the plain
-/// fields.
+/// What an undo puts back: the memory of drivers, the handle database, the open records and the
+/// plain fields.
 #[derive(Drop)]
 pub struct SoftPart {
     alloc: Global,

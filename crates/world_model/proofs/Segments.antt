@@ -19,7 +19,6 @@ list_all-mono P Q (x ∷ xs) more all =
     and_from (Q x) (list_all Q xs) (more x parts.0) (list_all-mono P Q xs more parts.1)
 
 -- if whatever passes two tests passes a third, and all pass both, all pass the third
--- pass the third
 pub list_all-both : {A : Type 0} (O P Q : A → Bool) (xs : List A) → ((x : A) → O x ≡ true → P x ≡ true → Q x ≡ true) → list_all O xs ≡ true → list_all P xs ≡ true → list_all Q xs ≡ true
 list_all-both O P Q [] more all also = refl
 list_all-both O P Q (x ∷ xs) more all also =

@@ -41,8 +41,8 @@ pub struct DroppedImage {
     pub thunks: Rows<Thunk>,
 }
 
-/// A change of the soft part that was made, with what is needed to take it back. The two that need most
-/// are boxed, since a log uses as much memory for each change as for the largest.
+/// A change of the soft part that was made, with what is needed to take it back. The two that need
+/// most are boxed, since a log uses as much memory for each change as for the largest.
 #[derive(Drop)]
 pub enum Change {
     /// The task priority level was set.

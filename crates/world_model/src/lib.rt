@@ -1,8 +1,9 @@
 //! The definitions of the one state of the firmware, the world, and of its single changes.
 //!
-//! `specs/World.antt` has the world: a soft part, which an undo puts back, and a hard part, which no
-//! undo touches. The other files have each single change as a word. `specs/Kept.antt` says what holds
-//! of every soft part. The only code is that of the plain types that definitions and code share.
+//! `specs/World.antt` has the world: a soft part, which an undo puts back, and a hard part, which
+//! no undo touches. The other files have each single change as a word. `specs/Kept.antt` says what
+//! holds of every soft part. The only code is that of the plain types that definitions and code
+//! share.
 #![tactic(auto)]
 
 mod boxed;
