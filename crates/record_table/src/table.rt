@@ -330,7 +330,7 @@ impl Table {
         self.names.leave(handle, guid, left);
     }
 
-    /// Takes out the weak records of an interface as one, if that can be, and answers all that it had.
+    /// Takes out the weak records of an interface as one, if possible, and answers all the records that it had.
     pub fn take_weak(&mut self, handle: Handle, guid: Guid) -> Option<InterfaceRecords>
         ensures left { let stays = λ (one : KeyedValue). not (is_weak_on (handle, guid) one) in
             self.new ≡ (if is_some result then filter stays self.old else self.old) }
@@ -345,14 +345,15 @@ impl Table {
         whole
     }
 
-    /// Makes ready that the weak records of an interface can go as one, if that is worth it: `going` go now.
+    /// Prepares to take out the weak records of an interface as one, if that is worth it. `going` of them are
+    /// taken out now.
     pub fn prepare(&mut self, handle: Handle, guid: Guid, going: usize)
         ensures { self.new ≡ self.old }
     {
         prepare_at(&mut self.interfaces, (handle, guid), going);
     }
 
-    /// Forgets what is said of handles that no record names, if that is much.
+    /// Forgets what is said about handles that no record names, if that is much.
     pub fn tidy(&mut self)
         ensures { self.new ≡ self.old }
     {
@@ -366,8 +367,8 @@ impl Table {
         self.names.forget(&self.interfaces, self.len, name.get());
     }
 
-    /// Puts in the weak records of an interface again, with all that it had. After an error the records are as
-    /// before.
+    /// Puts in the weak records of an interface again, with all the records that it had. After an error the
+    /// records are as before.
     pub fn put_weak(
         &mut self,
         handle: Handle,
