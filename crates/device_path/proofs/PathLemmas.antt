@@ -10,7 +10,7 @@ use Rattle.device_path.specs.declared.node.Node.{Node}
 use Rattle.device_path.specs.declared.refusal.PathRefusal.{PathRefusal}
 use Rattle.device_path.specs.declared.refusal.PathRefusal.TheVariants.{Short, BadLength, Unknown, OutOfMemory}
 
--- ---- a node has its header at least, and no more bytes than there are
+-- ---- a node has at least its header, and no more bytes than there are
 
 pub record IsWhole (bytes : List ℕ) (node : Node) : Type 0 where
   pub is : node ≡ header_of bytes

@@ -17,8 +17,8 @@ header_of bytes = record {
   length = uint16_at 2 bytes;
 }
 
--- The node at the front of bytes: its header is there, says that the node has its header at least, and no
--- more bytes than there are.
+-- The node at the front of bytes: its header is there, and the length in it is at least that of the header,
+-- and at most the number of bytes that there are.
 abbrev pub node_at : List ℕ → Result Node PathRefusal
 node_at bytes =
     if nat_lt (length bytes) 4 then Err Short
@@ -32,8 +32,8 @@ is_end bytes = starts_with nat_eq bytes (0x7F ∷ 0xFF ∷ [])
 
 -- ---- paths
 
--- A path: its nodes up to its end, each with all its bytes, and what is wrong with the node after them; none
--- if that is the End node.
+-- A path: its nodes up to its end, each with all its bytes, and what is wrong with the node after them;
+-- nothing, if that is the End node.
 pub record Path : Type 0 where
   pub nodes : List (List ℕ)
   pub fault : Option PathRefusal
@@ -54,7 +54,7 @@ path_within zero bytes = record { nodes = []; fault = Some Short }
 path_within (suc most) bytes =
     path_from (node_at bytes) bytes (path_within most (drop (header_of bytes).length bytes))
 
--- the path that bytes are
+-- bytes as a path
 unfoldable pub path_in : List ℕ → Path
 path_in bytes = path_within (length bytes) bytes
 
@@ -88,6 +88,6 @@ abbrev pub ok_unless : Option PathRefusal → List ℕ → Result (List ℕ) Pat
 ok_unless None bytes = Ok bytes
 ok_unless (Some refusal) bytes = Err refusal
 
--- the nodes of a path, a PCI node, and the end
+-- the nodes of a path, then a PCI node, and the end
 abbrev pub with_pci : Path → ℕ → ℕ → Result (List ℕ) PathRefusal
 with_pci path device function = ok_unless path.fault (concat path.nodes ++ pci_node device function ++ end_node)

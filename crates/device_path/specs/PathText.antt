@@ -48,6 +48,6 @@ is_unknown node = is_none (node_text node)
 abbrev pub text_of_nodes : List (List ℕ) → List ℕ
 text_of_nodes nodes = join_with_byte 47 (filter_map node_text nodes)
 
--- the text of a path, if each of its nodes has one and then comes its end
+-- the text of a path, if each of its nodes has one and its end comes after them
 abbrev pub text_of : Path → Result (List ℕ) PathRefusal
 text_of path = if list_any is_unknown path.nodes then Err Unknown else ok_unless path.fault (text_of_nodes path.nodes)

@@ -29,7 +29,7 @@ AreNodesOf (Err refusal) bytes = (path_in bytes).fault ≡ Some refusal
 
 -- ---- answers
 
--- a refusal is the due one, unless memory ran out
+-- a refusal is the one that is due, unless memory ran out
 abbrev pub RefusesAs : PathRefusal → Result (List ℕ) PathRefusal → Type 0
 RefusesAs Short answer = answer ≡ Err Short
 RefusesAs BadLength answer = answer ≡ Err BadLength

@@ -6,7 +6,7 @@ ghost use Rattle.device_path.specs.PathText.{known_text, text_of};
 ghost use Rattle.device_path.specs.declared.known.KnownNode.TheVariants.{Pci, PciRoot};
 
 /// Bytes are whole nodes in a row, none of which is the End node, and then the End node or a bad
-/// one. They are so in one way.
+/// one. They are so in exactly one way.
 pub fn paths_are_nodes()
     ensures some { (bytes : List ℕ) → IsPath bytes (path_in bytes) }
     ensures only { (bytes : List ℕ) (path : Path) → IsPath bytes path → path_in bytes ≡ path }
@@ -18,7 +18,7 @@ pub fn end_node_ends()
         → path_in (bytes ++ more) ≡ path_in bytes }
 {}
 
-/// A path with one more PCI node has the nodes of before and that one, and ends with an End node.
+/// A path with one more PCI node has the earlier nodes and that one, and ends with an End node.
 pub fn pci_node_is_last()
     ensures { (bytes child : List ℕ) (device function : ℕ) →
         with_pci (path_in bytes) device function ≡ Ok child
@@ -26,14 +26,14 @@ pub fn pci_node_is_last()
         ≡ record { nodes = (path_in bytes).nodes ++ pci_node device function ∷ []; fault = None } }
 {}
 
-/// Its text is the text of before and that of the PCI node.
+/// Its text is the earlier text and that of the PCI node.
 pub fn text_grows()
     ensures { (bytes child text : List ℕ) (device function : ℕ) →
         with_pci (path_in bytes) device function ≡ Ok child → text_of (path_in bytes) ≡ Ok text
         → text_of (path_in child) ≡ Ok (with_node text (known_text (Pci device function))) }
 {}
 
-/// The path of a root bridge has its ACPI node alone, and its text is that of the root bridge with
+/// The path of a root bridge has only its ACPI node, and its text is that of the root bridge with
 /// the _UID.
 pub fn root_path_is_one_node()
     ensures nodes { (uid : ℕ) →

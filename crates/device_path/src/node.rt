@@ -14,7 +14,7 @@ pub struct Node {
     pub kind: u8,
     /// Its sub-type.
     pub sub: u8,
-    /// How many bytes it has, its header among them.
+    /// How many bytes it has, including its header.
     pub length: u16,
 }
 

@@ -55,7 +55,7 @@ fn path_bytes(path: &Result<Vec<u8>, PathRefusal>) -> Result<&[u8], PathRefusal>
     }
 }
 
-/// A PCI node is put after the other nodes; what follows the End node goes.
+/// A PCI node is put after the other nodes; what follows the End node is dropped.
 #[test]
 fn one_more_node(rt: HostRuntime) {
     let cases: [(&[u8], Result<&[u8], PathRefusal>); 8] = [
@@ -118,7 +118,7 @@ fn texts(rt: HostRuntime) {
             Err(PathRefusal::Unknown),
         ),
         (&[0x01, 0x04, 0x04, 0x00, 0x01], Err(PathRefusal::Unknown)),
-        // The first node counts that is bad or has no text.
+        // The first node that is bad or has no text counts.
         (
             &[0x01, 0x01, 0x03, 0x00, 0x01, 0x04, 0x04, 0x00],
             Err(PathRefusal::BadLength),

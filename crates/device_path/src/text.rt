@@ -16,8 +16,8 @@ use std::fmt::Write;
 ///
 /// # Errors
 ///
-/// As the first node says that is bad or has no text: `Short` or `BadLength`, or `Unknown`.
-/// `OutOfMemory` if there is no memory for the text.
+/// `Short` or `BadLength` if the first node that is bad or has no text is bad, and `Unknown` if it
+/// has no text. `OutOfMemory` if there is no memory for the text.
 pub fn text_of(alloc: Global, path: &[u8]) -> Result<String, PathRefusal>
     ensures { GivesText result (text_of (path_in path.now)) }
 {

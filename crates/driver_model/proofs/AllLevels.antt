@@ -1,4 +1,4 @@
--- The levels by how many are below them: what each single move keeps, they keep.
+-- All levels keep what each single move keeps, by how many levels are below them.
 use Rattle.std.proofs.Common.{◌≡◌, ◌<◌, ◌≤◌, ℕ, suc, Bool, List, arith}
 use Rattle.fw_types.specs.declared.limits.TheConstants.{MOST_LEVELS}
 use Rattle.driver_model.specs.Moves.{Operations}

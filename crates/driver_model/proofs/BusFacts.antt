@@ -1,4 +1,4 @@
--- What holds where the PCI bus driver changes the state, by the tests that come before.
+-- What holds whenever the PCI bus driver changes the state, because of the tests that come before.
 use Rattle.std.proofs.Common.{◌≡◌, ℕ, Bool, true, false, [], ◌∷◌, Option, Some, None, refl, ap, sym, ◌∙◌}
 use Rattle.std.specs.Prelude.{Err, is_some}
 use Rattle.fw_types.specs.Guid.{known_guid}

@@ -206,7 +206,7 @@ new_child_stays controller function path rom soft kept room io few =
     (beside_memory noted (root_entered controller next BY_CHILD_CONTROLLER noted) refl refl
     (entered_kept controller next BY_CHILD_CONTROLLER noted new.stays.kept new.io new.can.live new.can.may refl new.room))
 
--- an answer that is good says that there is room
+-- an answer without a refusal says that there is room
 room_of : (full : Bool) (handle : ℕ) → not (is_ok {T = ℕ} {E = WorldFault} (if full then Err Full else Ok handle)) ≡ false → full ≡ false
 room_of true handle is = absurd cc
 room_of false handle is = refl

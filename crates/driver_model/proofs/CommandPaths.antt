@@ -25,7 +25,7 @@ passes_or_after image block next Stack base size test right fixed = inr (grind (
 passes_or_after image block next Table base size true right fixed = inl refl
 passes_or_after image block next Table base size false right fixed = absurd cc
 
--- what holds of all segments, and of whatever lies after all tables, goes on to hold
+-- what holds of all segments, and of whatever lies after all tables, still holds
 all_pass : (test : Segment → Bool) → ((s : Segment) → TABLES_END ≤ s.base → test s ≡ true) → (old new : Soft) → Stays old new → list_all test old.memory ≡ true → list_all test new.memory ≡ true
 all_pass test after old new stays all =
     let fixed = list_all-mono test (if_fixed test) old.memory (λ s pass. or_right (is_writable s.kind) (test s) pass) all in

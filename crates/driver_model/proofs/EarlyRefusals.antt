@@ -1,4 +1,5 @@
--- Uninstalls of several interfaces that are refused early: up to the pair that is refused, interfaces go with their records.
+-- Uninstalls of several interfaces that are refused early: up to the pair that is refused, interfaces are removed with
+-- their records.
 use Rattle.std.proofs.Common.{◌≡◌, ℕ, Bool, true, false, not, cond, ◌&&◌, ◌||◌, nat_eq, List, [], ◌∷◌, ◌++◌, map, filter, Option, Some, None, option_map, refl, ap, sym, subst, ◌∙◌, if◌then◌else◌, inl, inr}
 use Rattle.std.specs.List.{list_any, list_all}
 use Rattle.std.proofs.lemmas.Bool.{and_parts, eqb-true, not-true, or_cases, or_parts}
@@ -56,7 +57,7 @@ none_stay p q (x ∷ xs) none =
     by_tests true false is fails later = absurd cc
     by_tests false b is fails later = rw (is, later) refl
 
--- ---- records that nobody uses the interface by
+-- ---- records by which nobody uses the interface
 
 -- a legal attribute has one of the weak bits and not BY_DRIVER, or one of the other bits
 abbrev is_either : ℕ → Bool
@@ -109,7 +110,8 @@ module _ (handle : ℕ) (guid : List ℕ) (entries : List KeyedRecord) (kept : l
 
 -- ---- a state some pairs later
 
--- The pairs before are gone, every other interface is as at first, and there are no other records. The hard part is as at first.
+-- The earlier pairs are gone, every other interface is as at first, and there are no other records. The hard part is as
+-- at first.
 record IsLater (first : State) (before : List HandleInterface) (w : State) : Type 0 where
   sound : IsSound w.soft.database
   interfaces : (i : HandleInterface) → interface_on i w.soft ≡ (if is_listed i before then None else interface_on i first.soft)

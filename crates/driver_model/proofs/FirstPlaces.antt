@@ -47,7 +47,7 @@ among_others handle other differ (block ∷ blocks) = by_test (nat_eq block.hand
         rw no later
     by_test false is later = ap (λ b. nat_eq block.handle other || b) later
 
--- after a driver, those are new that are none of the others' and not it
+-- after a driver, those are new that are neither it nor one of the others
 new_after : (first : BindingBlock) (others : List BindingBlock) (block : BindingBlock)
     → (is_new others block && is_other first.handle block) ≡ is_new (first ∷ filter (is_other first.handle) others) block
 new_after first others block = by_test (nat_eq block.handle first.handle) refl
@@ -130,7 +130,7 @@ among_first_places handle (block ∷ blocks) =
     among_rest block.handle handle (first_places blocks) (nat_eq block.handle handle) refl
     ∙ ap (λ b. nat_eq block.handle handle || b) (among_first_places handle blocks)
 
--- ---- a driver more
+-- ---- one more driver
 
 one_new : (places : List BindingBlock) (block : BindingBlock) (here : Bool) → is_among places block ≡ here
     → filter (is_new places) (block ∷ []) ≡ (if here then [] else block ∷ [])

@@ -14,7 +14,7 @@ use Rattle.driver_model.specs.Staying.{KeepsBytes, if_fixed, is_later_block}
 
 -- ---- tests of the segments that no code may write
 
--- their own list passes a test, if each segment passes it that no code may write
+-- the list of these segments passes a test, if each segment that no code may write passes it
 fixed_pass : (test : Segment → Bool) (segments : List Segment) → list_all (if_fixed test) segments ≡ true → list_all test (fixed_segments segments) ≡ true
 fixed_pass test [] all = refl
 fixed_pass test (segment ∷ segments) all =
@@ -67,7 +67,7 @@ pass_later old test segments all =
 
 -- ---- changes of memory
 
--- the same segments are there that no code may write
+-- the segments that no code may write are the same
 pub bytes_same : (old new : Soft) → fixed_segments new.memory ≡ fixed_segments old.memory → KeepsBytes old new
 bytes_same old new same test all =
     let there : list_all test (fixed_segments new.memory) ≡ true = rw same (fixed_pass test old.memory all) in

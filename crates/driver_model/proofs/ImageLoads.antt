@@ -1,4 +1,4 @@
--- What each single move keeps, the load of an image keeps.
+-- The load of an image keeps what each single move keeps.
 use Rattle.std.proofs.Common.{◌≡◌, ◌<◌, ℕ, ◌+◌, Bool, true, false, not, nat_lt, List, [], length, Option, Some, None, refl, ap, arith}
 use Rattle.std.proofs.lemmas.Bool.{and_from}
 use Rattle.std.proofs.lemmas.Bool.Decides.{nat_tests}
@@ -24,7 +24,7 @@ abbrev adds_file : (file : List ℕ) → (device : ℕ) → State → Move
 adds_file file device w = adds_image (laid file w.soft.next_image) (entry_of file) (subsystem_of file) device
 
 -- It can be made, if the file is accepted and there is room: the laid image has the size that the file says, and its
--- entry inside.
+-- entry is inside.
 can_add : (file : List ℕ) (device : ℕ) (w : State) → refusal_of file ≡ None → is_image_full (size_of file) w.soft ≡ false → is_allowed (adds_file file device w) w ≡ true
 can_add file device w fine room =
     let size : length (laid file w.soft.next_image) ≡ size_of file = length-laid file w.soft.next_image fine in

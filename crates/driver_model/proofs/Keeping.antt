@@ -1,4 +1,4 @@
--- What each single move keeps, every activation, driver call and run keeps, at all levels.
+-- Every activation, driver call and run keeps what each single move keeps, at all levels.
 use Rattle.std.proofs.Common.{◌≡◌, ◌<◌, subst, ℕ, ◌+◌, zero, suc, Bool, true, false, ◌&&◌, ◌||◌, not, nat_eq, nat_lt, List, [], ◌∷◌, Option, Some, None, refl, arith}
 use Rattle.std.specs.Prelude.{Result, Ok, Err, is_ok, is_some, ok_or, if◌then◌else◌}
 use Rattle.std.specs.List.{list_all}
@@ -70,8 +70,9 @@ use Rattle.driver_model.specs.declared.request.Remover.{Remover}
 use Rattle.driver_model.specs.declared.request.Remover.TheVariants.{TheFirmware, ADriver}
 use Rattle.driver_model.specs.declared.settings.Settings.{Settings}
 
--- A relation between a machine and a later one, at a level, which each move keeps that can be made. Lists of
--- children are such that the relation allows, of which `few` tells.
+-- A relation between a machine and a later one, at a level, that each move keeps if it can be made. The
+-- lists of children are those that `is_listable` accepts; by `few`, the children that are stopped may be
+-- taken to be such a list.
 pub record KeepsMoves {S : Type 0} (o : Operations S) (is_listable : List ℕ → Bool) (R : (level : ℕ) → S → S → Type 0) : Type 0 where
   -- a move is seen as a change
   pub sees : (move : Move) (w : S) → o.see (o.make move w) ≡ changed move (o.see w)
@@ -86,14 +87,14 @@ pub record KeepsMoves {S : Type 0} (o : Operations S) (is_listable : List ℕ �
   -- a stack of the next level is there for a while
   pub stacked : (level : ℕ) (slots children : List ℕ) (w v : S) → level < MOST_LEVELS → has_sixteen slots ≡ true → is_listable children ≡ true
       → R (suc level) (o.make (pushes (suc level) slots children) w) v → R level w (o.make (pops (suc level)) v)
-  -- no child is a list, and so are the children that a Stop is given
+  -- the empty list is allowed, and so are the children that a Stop is given
   pub childless : is_listable [] ≡ true
   pub few : (level controller agent child : ℕ) (w v : S) → (is_listable (children_to_stop child (children_of controller (Some agent) (o.see w).soft)) ≡ true → R level w v) → R level w v
   -- what holds at a level holds at those before it
   pub deeper : (level : ℕ) (w v : S) → R (suc level) w v → R level w v
   pub undone : (level : ℕ) (w v : S) → R level w v → R level w (o.make (puts_back (o.see w).soft) v)
 
--- each move that can be made keeps it, also one that drops an image
+-- each move that can be made keeps it, even one that drops an image
 abbrev pub KeepsEachMove : {S : Type 0} → Operations S → ((level : ℕ) → S → S → Type 0) → Type 0
 KeepsEachMove {S} o R = (level : ℕ) (move : Move) (w : S) → is_allowed move (o.see w) ≡ true → R level w (o.make move w)
 
@@ -115,7 +116,7 @@ pub choose : {A : Type 0} (P : A → Type 0) (b : Bool) (x y : A) → P x → P 
 choose P true x y h k = h
 choose P false x y h k = k
 
--- where the test is evidence
+-- with the test as evidence
 pub choose_by : {A : Type 0} (P : A → Type 0) (b : Bool) (x y : A) → (b ≡ true → P x) → (b ≡ false → P y) → P (if b then x else y)
 choose_by P true x y h k = h refl
 choose_by P false x y h k = k refl
@@ -303,7 +304,7 @@ module _ {S : Type 0} (o : Operations S) (is_listable : List ℕ → Bool) (R : 
     unfolding taken_away
     taken_away_keeps i w can = unless_open_keeps i (records_on i (o.see w).soft) w can
 
-    -- an interface of one's own can go, and so can it after weak records went
+    -- an interface of one's own can be removed, even after its weak records were removed
     can_go : (remover : Remover) (i : HandleInterface) (found : Option (ℕ × ℕ)) → may_go remover i ≡ true → is_still_there remover i.interface found ≡ true
         → (is_of_image found || not (has_lasting_interfaces i.guid)) ≡ true
     can_go TheFirmware i None may is = absurd cc
@@ -347,7 +348,7 @@ module _ {S : Type 0} (o : Operations S) (is_listable : List ℕ → Bool) (R : 
         kept.joined level _ _ _ (uninstalled_keeps remover i parts.0 w)
         (choose (λ (x : Bool × S). R level r.1 x.1) (nat_eq r.0.0 SUCCESS.0) _ _ (each_keeps remover interfaces r.1 parts.1) (kept.same level r.1))
 
-    -- a driver may uninstall whatever is its own
+    -- a driver may ask for the uninstall of any interface
     drivers_may : (interfaces : List HandleInterface) → list_all (may_go ADriver) interfaces ≡ true
     drivers_may [] = refl
     drivers_may (i ∷ interfaces) = drivers_may interfaces

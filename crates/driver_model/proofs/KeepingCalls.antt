@@ -1,4 +1,4 @@
--- What each single move keeps, driver calls keep, and so do all levels.
+-- Driver calls keep what each single move keeps, and so do all levels.
 use Rattle.std.proofs.Common.{◌≡◌, ◌<◌, ℕ, ◌+◌, zero, suc, Bool, true, false, nat_lt, List, [], Option, refl, arith}
 use Rattle.std.specs.Prelude.{if◌then◌else◌}
 use Rattle.fw_types.specs.declared.event.Cause.TheVariants.{Budget}

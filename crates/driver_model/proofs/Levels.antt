@@ -64,7 +64,7 @@ pub unloads_stay : UnloadsStay
 unloads_stay settings room scope handle w lt can =
     unload_keeps plain fits_list StaysAt stays_kept each_move_stays (level_with (suc room)) (level_over plain settings (level_with room) (below plain settings room)) (level_itself plain fits_list StaysAt stays_kept settings room lt) scope handle w can
 
--- ---- where it begins, and what code needs of it
+-- ---- how it begins, and what code needs of it
 
 pub rest_can_run : RestCanRun
 rest_can_run soft kept none = record {

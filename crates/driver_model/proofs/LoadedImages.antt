@@ -47,11 +47,11 @@ images_by_changes = record {
   leave = λ soft handle name agent controller kept. same_images soft;
 }
 
--- one image more leaves those that are found
+-- one more image leaves those that are found
 more_images : (handle : ℕ) (image new : LoadedImage) (images : List LoadedImage) → image_of handle images ≡ Some image → image_of handle (images ++ new ∷ []) ≡ Some image
 more_images handle image new images is = find-append (λ (one : LoadedImage). nat_eq one.handle handle) images (new ∷ []) ∙ rw is refl
 
--- a child brings none, and a block that is freed takes none
+-- a child adds none, and a block that is freed removes none
 noted_images : (function : ℕ) (rom : Bool) (path : List ℕ) (soft : Soft) → (child_added path rom function soft).images ≡ soft.images
 noted_images function true path soft =
     choose_by (λ (s : Soft). s.images ≡ soft.images) (nat_lt function (length soft.bus_lists)) _ _ (λ is. refl) (λ is. refl)

@@ -43,7 +43,7 @@ use Rattle.driver_model.proofs.FixedBytes.{bytes_by_tests, bytes_same, pass_mapp
 use Rattle.driver_model.proofs.ImageSweeps.{swept_stays}
 use Rattle.driver_model.proofs.Steps.{step_cases}
 
--- ---- what services stand on
+-- ---- what the proofs for services need
 
 kept_by_changes : IsKeptBy StillKept
 kept_by_changes = kept-by (record {
@@ -130,7 +130,7 @@ added_stays bytes entry subsystem device soft kept can =
 
 -- ---- interfaces
 
--- an interface of an image, or of a protocol of which none lasts, does not last
+-- an interface of an image does not last, nor does one of a protocol without lasting interfaces
 not_lasting : (soft : Soft) (handle : ℕ) (guid : List ℕ) → IsKept soft → (is_of_image (interface_of handle guid soft.database) || not (has_lasting_interfaces guid)) ≡ true
     → is_lasting handle guid soft ≡ false
 not_lasting soft handle guid kept can =

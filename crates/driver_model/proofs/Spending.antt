@@ -1,4 +1,4 @@
--- Units never rise, events only come, and each event is paid, at all levels.
+-- Units never rise, events are only added, and each event is paid, at all levels.
 use Rattle.std.proofs.Common.{◌≡◌, ◌≤◌, ℕ, ◌+◌, Bool, true, false, nat_eq, nat_lt, List, [], ◌∷◌, ◌++◌, length, map, take, refl, ap, ◌∙◌, sym, arith, length-append, if◌then◌else◌}
 use Rattle.std.proofs.lemmas.Bool.Decides.{nat_tests}
 use Rattle.std.proofs.lemmas.List.{length-map, take-append-le, take-map, take-take, take_all}
@@ -32,7 +32,7 @@ said events = map without_result events
 pub same_said : (events : List Event) → map without_result (take (length events) events) ≡ map without_result events
 same_said events = ap (map without_result) (take_all (length events) events (omega arith))
 
--- the events of before, after two changes
+-- the earlier events, after two changes
 pub joined_said : (one two three : List Event) → length one ≤ length two
     → map without_result (take (length one) two) ≡ map without_result one
     → map without_result (take (length two) three) ≡ map without_result two
@@ -54,7 +54,7 @@ results_only serial outcome (event ∷ events) =
     let others = results_only serial outcome events in
     (λ k. one k ∷ others k)
 
--- a state with the hard part of before
+-- a state with the same hard part as before
 still : (old new : Hard) → new ≡ old → Spends old new
 still old new is =
     let units : new.units ≡ old.units = ap (λ h. h.units) is in

@@ -1,5 +1,5 @@
--- What each single move keeps, the unload of an image keeps. One that does not succeed leaves the soft part, and one that
--- succeeds sweeps what its handler left.
+-- The unload of an image keeps what each single move keeps. One that does not succeed leaves the soft part, and one
+-- that succeeds sweeps what its handler left.
 use Rattle.std.proofs.Common.{◌≡◌, ◌≢◌, ℕ, Bool, true, false, not, nat_eq, List, [], Option, Some, None, refl, ap}
 use Rattle.std.specs.Prelude.{if◌then◌else◌}
 use Rattle.std.proofs.lemmas.Bool.{both_ways}

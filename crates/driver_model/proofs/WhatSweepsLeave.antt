@@ -31,7 +31,7 @@ use Rattle.driver_model.proofs.UnmappedBytes.{unreadable}
 
 -- ---- lists
 
--- what a filter leaves passes no test that fails wherever the filter passes
+-- what a filter leaves passes no test that fails whenever the filter passes
 none_in_filter : {X : Type 0} (P Q : X → Bool) (xs : List X) → ((x : X) → P x ≡ true → Q x ≡ false) → list_any Q (filter P xs) ≡ false
 none_in_filter P Q [] none = refl
 none_in_filter P Q (x ∷ xs) none = by_head (P x) refl (none_in_filter P Q xs none)
@@ -40,7 +40,7 @@ none_in_filter P Q (x ∷ xs) none = by_head (P x) refl (none_in_filter P Q xs n
     by_head true is later = or_from (Q x) (list_any Q (filter P xs)) (none x is) later
     by_head false is later = later
 
--- and none that passes nothing before
+-- and no test that nothing passed before
 none_left_in : {X : Type 0} (P Q : X → Bool) (xs : List X) → list_any Q xs ≡ false → list_any Q (filter P xs) ≡ false
 none_left_in P Q [] none = refl
 none_left_in P Q (x ∷ xs) none = by_head (P x) (Q x) refl none (λ rest. none_left_in P Q xs rest)
@@ -51,7 +51,7 @@ none_left_in P Q (x ∷ xs) none = by_head (P x) (Q x) refl none (λ rest. none_
     by_head false true is none later = absurd cc
     by_head false false is none later = later none
 
--- ---- what goes
+-- ---- what is removed
 
 -- no handle has an interface of the image's
 none_owned : (image : ℕ) (entries : List HandleEntry)

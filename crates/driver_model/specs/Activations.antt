@@ -21,7 +21,7 @@ module _ {S : Type 0} (o : Operations S) where
   abbrev pub is_short : S → Bool
   is_short w = nat_lt (o.see w).hard.units CALL_PRICE
 
-  -- inside the event that begins next
+  -- the scope inside the event that begins next
   abbrev pub next_scope : S → Scope
   next_scope w = record { event = next_serial (o.see w).hard }
 

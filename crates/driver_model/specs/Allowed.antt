@@ -1,5 +1,5 @@
--- What must hold of the state for a move to be made. The definitions make no other moves: each place has it from the
--- tests that come right before the move.
+-- What must hold of the state for a move to be made. The definitions make no other moves: wherever one is made, the
+-- tests right before it ensure this.
 use Rattle.std.specs.Prelude.{ℕ, Bool, true, false, ◌&&◌, ◌||◌, not, nat_eq, nat_lt, is_ok, is_some, bytes_eq, List, length}
 use Rattle.fw_types.specs.Guid.{known_guid}
 use Rattle.fw_types.specs.declared.guid.Known.TheVariants.{DriverBinding, LoadedImage as LoadedImageProtocol}
@@ -22,7 +22,8 @@ use Rattle.driver_model.specs.declared.request.Remover.TheVariants.{TheFirmware,
 abbrev pub has_lasting_interfaces : (guid : List ℕ) → Bool
 has_lasting_interfaces guid = bytes_eq guid (known_guid LoadedImageProtocol) || bytes_eq guid (known_guid DriverBinding)
 
--- The firmware uninstalls no interface of such a protocol, and a driver none of the firmware's (`is_still_there`).
+-- The firmware uninstalls no interface of such a protocol, and a driver uninstalls none of the firmware's
+-- (`is_still_there`).
 abbrev pub may_go : Remover → HandleInterface → Bool
 may_go TheFirmware i = not (has_lasting_interfaces i.guid)
 may_go ADriver i = true
@@ -37,7 +38,7 @@ is_allowed (ends_event serial outcome) w = true
 is_allowed (steps cpu) w = true
 is_allowed (serves service caller) w = true
 is_allowed (looks_again opening) w = true
--- the address of the thunk can be stored, its entry lies in an image, and a number is left
+-- the address of the thunk can be stored, its entry lies in an image, and a thunk number is left
 is_allowed (makes_thunk place entry at) w =
     is_writable_range w.soft.memory place 8 && (is_some (image_at entry w.soft) && is_ok (thunk_answer w.soft))
 is_allowed (pushes level slots children) w = false
@@ -47,7 +48,7 @@ is_allowed (puts_back before) w = false
 is_allowed (closes_all controller agent) w = true
 is_allowed (closes_child controller agent child) w = true
 is_allowed (drops_weak handle guid) w = true
--- the interface is an image's, or of a protocol of which none lasts
+-- the interface is an image's, or its protocol has no lasting interfaces
 is_allowed (uninstalls handle guid) w = is_of_image (interface_of handle guid w.soft.database) || not (has_lasting_interfaces guid)
 -- there is room for the image, and its entry is inside
 is_allowed (adds_image bytes entry subsystem device) w = nat_lt entry (length bytes) && not (is_image_full (length bytes) w.soft)

@@ -1,4 +1,5 @@
--- Driver bindings (UEFI 2.8, 11.1: EFI Driver Binding Protocol), as their bytes in guest memory say.
+-- Driver bindings (UEFI 2.8, 11.1: EFI Driver Binding Protocol), as they are read from their bytes
+-- in guest memory.
 use Rattle.std.specs.Prelude.{ℕ, List, Option, Some, None, if◌then◌else◌}
 use Rattle.std.specs.List.{filter_map}
 use Rattle.fw_types.specs.Guid.{known_guid}
@@ -10,7 +11,7 @@ use Rattle.world_model.specs.World.{Soft}
 use Rattle.driver_model.specs.declared.binding.BindingBlock.{BindingBlock}
 use Rattle.driver_model.specs.declared.binding.TheConstants.{BINDING_SIZE}
 
--- a handle's binding, whose bytes lie at an address
+-- a handle's binding, with these bytes at an address
 abbrev pub block_of : (handle at : ℕ) → List ℕ → BindingBlock
 block_of handle at bytes = record {
   handle = handle;
@@ -22,7 +23,7 @@ block_of handle at bytes = record {
   image = uint64_at 32 bytes;
 }
 
--- if all of them can be read
+-- the same, if all its bytes can be read
 abbrev pub block_at : (handle at : ℕ) → Soft → Option BindingBlock
 block_at handle at soft = if is_readable soft.memory at BINDING_SIZE then Some (block_of handle at (bytes_of soft.memory at BINDING_SIZE)) else None
 
@@ -30,7 +31,8 @@ abbrev pub binding_at : (handle : ℕ) → Option (ℕ × ℕ) → Soft → Opti
 binding_at handle None soft = None
 binding_at handle (Some interface) soft = block_at handle interface.0 soft
 
--- the binding of a handle: it is live, has a driver binding, and all bytes of that can be read
+-- the binding of a handle: it is live, has a driver binding, and all bytes of the binding can be
+-- read
 abbrev pub binding : ℕ → Soft → Option BindingBlock
 binding handle soft = binding_at handle (interface_of handle (known_guid DriverBinding) soft.database) soft
 

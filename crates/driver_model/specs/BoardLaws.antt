@@ -12,6 +12,6 @@ pub record HasSameBoard (old new : State) : Type 0 where
 abbrev pub BoardStays : Type 0
 BoardStays = (first last : State) → Chain first last → HasSameBoard first last
 
--- so there goes on to be one bus list for each function of the board
+-- so there is still one bus list for each function of the board
 abbrev pub BusListsStay : Type 0
 BusListsStay = (first last : State) → Chain first last → HasBusLists first → HasBusLists last

@@ -23,7 +23,7 @@ use Rattle.service_model.specs.declared.call.HandleInterface.{HandleInterface}
 abbrev pub root_entered : (controller child attr : ℕ) → Soft → Soft
 root_entered controller child attr soft = record_entered controller (known_guid RootBridgeIo) bus_driver child attr soft
 
--- whether one more record is more than there may be
+-- whether there is no room for one more record
 abbrev pub is_root_record_full : (controller child attr : ℕ) → Soft → Bool
 is_root_record_full controller child attr soft = is_full controller (known_guid RootBridgeIo) bus_driver child attr soft.records
 
@@ -36,7 +36,7 @@ is_root_full controller soft = is_root_record_full controller controller BY_DRIV
 
 -- ---- a child
 
--- a new handle for a function, for which root bridge I/O is open
+-- the state with a new handle for a function, and with root bridge I/O opened for the handle
 abbrev pub bus_child_made : (controller function : ℕ) → State → State
 bus_child_made controller function w =
     on_soft (root_entered controller w.soft.database.next BY_CHILD_CONTROLLER) (child_made controller function w)
@@ -54,11 +54,11 @@ is_below None function w = false
 is_below (Some bus) None w = false
 is_below (Some bus) (Some number) w = option_map_or (nat_eq bus) (first_bus w.hard.board.lines number) false
 
--- whether a handle is a child of the bus, and the controller the root bridge above it
+-- whether a handle is a child of the bus, and the controller is the root bridge above it
 abbrev pub is_child_of : (controller child : ℕ) → State → Bool
 is_child_of controller child w = is_below (root_bus controller w) (child_function child w.soft) w
 
--- the address of the firmware's interface of a protocol, or 0; an interface of another owner is not there
+-- the address of the firmware's interface of a protocol, or 0; an interface of another owner counts as absent
 abbrev pub firmware_address : Option (ℕ × ℕ) → ℕ
 firmware_address None = 0
 firmware_address (Some found) = if nat_eq found.1 firmware then found.0 else 0
@@ -66,7 +66,7 @@ firmware_address (Some found) = if nat_eq found.1 firmware then found.0 else 0
 abbrev pub interface_to_go : (child : ℕ) → (guid : List ℕ) → Soft → HandleInterface
 interface_to_go child guid soft = record { handle = child; guid = guid; interface = firmware_address (interface_of child guid soft.database) }
 
--- whether a handle has a protocol of the firmware
+-- whether an interface is there, and is the firmware's
 abbrev pub has_of_firmware : Option (ℕ × ℕ) → Bool
 has_of_firmware None = false
 has_of_firmware (Some found) = nat_eq found.1 firmware

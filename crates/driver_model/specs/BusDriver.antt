@@ -7,14 +7,14 @@
 --  2. Each function that is chosen costs 16 units, or Start traps with Budget. It becomes a new handle with a device path,
 --     with PCI I/O and, if it has an option ROM, with the bus specific driver override. Root bridge I/O is opened
 --     BY_CHILD_CONTROLLER for the handle. OUT_OF_RESOURCES at a limit (`children_made`).
---  3. Below the last level the new children are taken in turn for their option ROMs. A child is passed over if it is not
---     live at its turn, and if its function has no option ROM or one that was processed. Otherwise the drivers of the
---     option ROM are loaded in order, with the child as their device. Those that stay loaded are the bus list of the
---     function, and its option ROM is processed then (`roms_processed`).
+--  3. Unless this is the last level, the new children are taken in turn for their option ROMs. A child is passed over if
+--     it is not live at its turn, or if its function has no option ROM or one that was processed. Otherwise the drivers
+--     of the option ROM are loaded in order, with the child as their device. Those that stay loaded are the bus list of
+--     the function, and its option ROM is processed then (`roms_processed`).
 --  4. SUCCESS.
 --
 -- The rules of Stop, which takes its children in turn:
---  1. Each costs 16 units, or Stop traps with Budget.
+--  1. Each child costs 16 units, or Stop traps with Budget.
 --  2. DEVICE_ERROR if the handle is no child of the bus below this root bridge (`child_stopped`).
 --  3. Its PCI I/O, its device path and its bus specific driver override are uninstalled by the rules of
 --     UninstallProtocolInterface, for the firmware. DEVICE_ERROR at the first that is not (`after_taking`).
@@ -59,7 +59,7 @@ module _ {S : Type 0} (o : Operations S) where
       if is_bus_child_full controller function (o.see w) then (Err (Value OUT_OF_RESOURCES), w)
       else others (children ++ record { handle = (o.see w).soft.database.next; function = function } ∷ []) (o.make (adds_child controller function) w)
 
-  -- those of functions after others; they are made in the order of their functions
+  -- the children of these functions, after earlier ones; they are made in the order of their functions
   unfoldable pub children_made : (controller : ℕ) → (numbers : List ℕ) → List NewChild → S → Result (List NewChild) Outcome × S
   children_made controller [] children w = (Ok children, w)
   children_made controller (number ∷ numbers) children w =
@@ -68,7 +68,7 @@ module _ {S : Type 0} (o : Operations S) where
 
   -- ---- Start, rule 3: option ROMs
 
-  -- the image of a load that succeeded, after others
+  -- the images so far, with the image of a load if it succeeded
   abbrev pub with_loaded : List ℕ → ImageNote → List ℕ
   with_loaded images (note.Loaded image) = images ++ image ∷ []
   with_loaded images (note.Failed status) = images
@@ -79,7 +79,7 @@ module _ {S : Type 0} (o : Operations S) where
   abbrev pub after_load : (List ℕ → S → List ℕ × S) → List ℕ → Load S → List ℕ × S
   after_load others images load = others (with_loaded images load.note) load.world
 
-  -- those that stay loaded, of drivers in order
+  -- the images that stay loaded, of drivers that are loaded in order
   unfoldable pub images_loaded : Level S → Scope → (device : ℕ) → (files : List (List ℕ)) → (images : List ℕ) → S → List ℕ × S
   images_loaded below scope device [] images w = (images, w)
   images_loaded below scope device (file ∷ files) images w =

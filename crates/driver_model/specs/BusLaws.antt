@@ -1,4 +1,4 @@
--- What holds where the PCI bus driver changes the state, by the tests that come before.
+-- What holds whenever the PCI bus driver changes the state, because of the tests that come before.
 use Rattle.std.specs.Prelude.{◌≡◌, ℕ, true, false, Ok, Err, List, is_some}
 use Rattle.std.specs.List.{list_all}
 use Rattle.fw_types.specs.Guid.{known_guid}
@@ -28,19 +28,20 @@ abbrev pub SupportedIsRoot : Type 0
 SupportedIsRoot =
     (controller path : ℕ) (w : State) (numbers : List ℕ) → functions_chosen controller path w ≡ Ok numbers → IsSupported controller w
 
--- what an open of root bridge I/O by the bus driver, for a handle, needs beside room for its record
+-- what an open of root bridge I/O by the bus driver, for a handle, needs besides room for its record
 pub record CanBeOpened (controller child attr : ℕ) (soft : Soft) : Type 0 where
   pub there : is_some (interface_of controller (known_guid RootBridgeIo) soft.database) ≡ true
   pub agent : is_live bus_driver soft.database ≡ true
   pub live : is_live child soft.database ≡ true
   pub may : may_enter (judge (records_of soft.records.entries controller (known_guid RootBridgeIo)) bus_driver child attr) ≡ true
 
--- so can a controller that is supported, for itself
+-- a controller that is supported can be opened for itself
 abbrev pub RootCanBeOpened : Type 0
 RootCanBeOpened =
     (controller : ℕ) (w : State) → IsKept w.soft → IsSupported controller w → CanBeOpened controller controller BY_DRIVER w.soft
 
--- and a root bridge for a child that is made, if no limit is met; there is room for its record, and the root bridge is one still
+-- A root bridge can be opened for a child that is made, if no limit is met. There is room for the record, and the root
+-- bridge is still one.
 pub record ChildIsIn (controller function : ℕ) (w : State) : Type 0 where
   pub can : CanBeOpened controller w.soft.database.next BY_CHILD_CONTROLLER (child_made controller function w).soft
   pub room : is_root_record_full controller w.soft.database.next BY_CHILD_CONTROLLER (child_made controller function w).soft ≡ false
@@ -63,6 +64,6 @@ DeadIsNoChild = (controller child : ℕ) (w : State) → IsKept w.soft → is_li
 abbrev pub AllMayGo : Type 0
 AllMayGo = (child : ℕ) (soft : Soft) → list_all (may_go TheFirmware) (interfaces_to_go child soft) ≡ true
 
--- a driver may uninstall whatever is its own
+-- a driver may ask for the uninstall of any interface
 abbrev pub DriversMayUninstall : Type 0
 DriversMayUninstall = (interfaces : List HandleInterface) → list_all (may_go ADriver) interfaces ≡ true

@@ -1,11 +1,11 @@
--- What the PCI bus driver says to a controller and to a remaining device path: its Supported, and which functions its Start
--- makes handles for (UEFI 2.8, 14.3.2.1: Driver Binding Protocol for PCI Bus Drivers).
+-- What the PCI bus driver answers for a controller and a remaining device path: its Supported, and which functions its
+-- Start makes handles for (UEFI 2.8, 14.3.2.1: Driver Binding Protocol for PCI Bus Drivers).
 --
 -- The rules, in their order:
 --  1. UNSUPPORTED if the controller is no root bridge: it has no root bridge I/O of the firmware (`chosen_on`).
 --  2. UNSUPPORTED if the path is neither NULL, nor an End node, nor a PCI node (`path_choice`).
---  3. ALREADY_STARTED or ACCESS_DENIED if the open records of root bridge I/O say so to an open by the bus driver
---     BY_DRIVER (`unless_open`).
+--  3. ALREADY_STARTED or ACCESS_DENIED if an open of root bridge I/O BY_DRIVER by the bus driver gets that verdict from the
+--     open records (`unless_open`).
 --  4. Otherwise the controller is supported. NULL chooses all functions on the bus of the root bridge and below it, an End
 --     node chooses none, and a PCI node the function that it names, on the bus itself, if there is one (`chosen`).
 use Rattle.std.specs.Prelude.{ℕ, nat_eq, List, [], ◌∷◌, slice_index, Option, Some, None, Result, Ok, Err, if◌then◌else◌}
@@ -45,7 +45,7 @@ node_choice node = if starts_with nat_eq node pci_header then Some (OneFunction 
 abbrev pub choice_by : (end node : List ℕ) → Option PathChoice
 choice_by end node = if is_end end then Some NoFunction else node_choice node
 
--- bytes that can't be read are none
+-- bytes that can't be read count as no bytes
 abbrev pub path_choice : (path : ℕ) → Soft → Option PathChoice
 path_choice path soft =
     if nat_eq path 0 then Some AllFunctions else choice_by (bytes_of soft.memory path 2) (bytes_of soft.memory path 6)
@@ -60,12 +60,12 @@ chosen (OneFunction device function) bus lines = option_map_or (λ number. numbe
 
 -- ---- rule 3
 
--- what root bridge I/O of a controller says to an open by the bus driver
+-- the verdict on an open of a controller's root bridge I/O by the bus driver
 abbrev pub root_verdict : (controller : ℕ) → Soft → Verdict
 root_verdict controller soft =
     judge (records_of soft.records.entries controller (known_guid RootBridgeIo)) bus_driver controller BY_DRIVER
 
--- An open BY_DRIVER takes the place of no other, so the last case comes to nothing.
+-- An open BY_DRIVER takes the place of no other, so the last case never arises.
 abbrev pub refusal_by : Verdict → Option Status
 refusal_by Add = None
 refusal_by Count = None

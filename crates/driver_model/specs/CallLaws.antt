@@ -36,7 +36,7 @@ UncommittedCallsLeave =
     → commits call.kind (outcome_of_call settings room scope call children w) ≡ false
     → (left_by_call settings room scope call children w).soft ≡ w.soft
 
--- Supported always does.
+-- Supported always leaves the soft part as it was.
 abbrev pub SupportedLeaves : Type 0
 SupportedLeaves =
     (settings : Settings) (room : ℕ) (scope : Scope) (call : Call) (children : List ℕ) (w : State) → call.kind ≡ Supported
@@ -48,7 +48,7 @@ CallsLeaveTpl =
     (settings : Settings) (room : ℕ) (scope : Scope) (call : Call) (children : List ℕ) (w : State)
     → (left_by_call settings room scope call children w).soft.tpl ≡ w.soft.tpl
 
--- the event of a call that ended so
+-- the event of a call that had this outcome
 abbrev pub event_of : Scope → Call → Outcome → (serial : ℕ) → Event
 event_of scope call outcome serial = record {
   serial = serial;
@@ -60,7 +60,8 @@ event_of scope call outcome serial = record {
   result = outcome;
 }
 
--- After the events of before comes the call's own event, unless it may not spend its price; those of what it calls follow.
+-- After the earlier events comes the call's own event, unless the call may not spend its price. The events of what it
+-- calls follow.
 abbrev pub CallsHaveTheirEvent : Type 0
 CallsHaveTheirEvent =
     (settings : Settings) (room : ℕ) (scope : Scope) (call : Call) (children : List ℕ) (w : State)

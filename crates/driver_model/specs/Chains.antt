@@ -1,6 +1,6 @@
--- All that a run, a driver call, an activation, a load or an unload changes, one move after the other. Each move can be made where
--- it is made, and those that come in pairs come so. So the bytes of memory change by steps, services, second looks, the
--- addresses of thunks, stacks and images alone.
+-- All that a run, a driver call, an activation, a load or an unload changes, one move after the other. Each move can be
+-- made at the point at which it is made, and moves that belong in pairs come in pairs. So the bytes of memory change
+-- only by steps, services, second looks, the addresses of thunks, stacks and images.
 use Rattle.std.specs.Prelude.{◌≡◌, ◌<◌, ◌≤◌, ℕ, suc, true, false, nat_lt, List}
 use Rattle.fw_types.specs.declared.event.EventKind.{EventKind}
 use Rattle.fw_types.specs.declared.limits.TheConstants.{CALL_PRICE, MOST_LEVELS}

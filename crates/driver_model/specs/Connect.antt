@@ -1,13 +1,13 @@
 -- ConnectController (UEFI 2.8, 7.3).
 --
 -- The rules, in their order:
---  1. ABORTED if fewer units are left than an activation costs; no event (`connect`).
+--  1. ABORTED if fewer units are left than an activation costs. There is no event then (`connect`).
 --  2. The price is paid and the event begins (`connect`).
 --  3. OUT_OF_RESOURCES at the last level (`connected`).
 --  4. INVALID_PARAMETER if the controller is not live (`connected`).
---  5. Searches (`search`, `found`, `asked`, `started`): the order is made, and each driver in it that is not marked is
---     asked by Supported, from the first on. The first one that succeeds is marked, and its Start is called. While the
---     controller is live, a new search begins then. The search that finds no driver is the last.
+--  5. Searches (`search`, `found`, `asked`, `started`): the order of drivers is made, and Supported of each driver in
+--     it that is not marked is called, from the first on. The first driver that succeeds is marked, and its Start is
+--     called. If the controller is live after that, a new search begins. The search that finds no driver is the last.
 --  6. If children are asked for too and the controller is live, they are listed once, and each that is live at its turn
 --     is connected at the next level, whatever the others answer (`with_children`).
 --  7. SUCCESS if a Start succeeded, or if the path was an End node; otherwise NOT_FOUND (`status_of`).
@@ -102,13 +102,14 @@ module _ {S : Type 0} (o : Operations S) where
   started below scope c again marked any (Some block, w) =
       after_start c (again (block.handle ∷ marked)) any (below.call scope (driver_call Start block c) [] w)
 
-  -- so many searches at most: whether a Start succeeded, and the state after them
+  -- at most so many searches: whether a Start succeeded, and the state after them
   unfoldable pub searches : (fuel : ℕ) → Settings → Level S → Scope → Connection → (context marked : List ℕ) → (any : Bool) → S → Bool × S
   searches zero settings below scope c context marked any w = (any, w)
   searches (suc fuel) settings below scope c context marked any w =
       started below scope c (λ marked. searches fuel settings below scope c context marked) marked any (found settings below scope c context marked w)
 
-  -- all of them: each search that finds a driver costs units, so there are no more than units are left, and one
+  -- all searches: each one that finds a driver costs units, so there are at most as many searches as units left, plus
+  -- one
   abbrev pub search : Settings → Level S → Scope → Connection → (context marked : List ℕ) → (any : Bool) → S → Bool × S
   search settings below scope c context marked any w = searches (suc (o.see w).hard.units) settings below scope c context marked any w
 

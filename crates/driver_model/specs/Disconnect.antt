@@ -1,7 +1,7 @@
 -- DisconnectController (UEFI 2.8, 7.3).
 --
 -- The rules, in their order:
---  1. ABORTED if fewer units are left than an activation costs; no event (`disconnect`).
+--  1. ABORTED if fewer units are left than an activation costs. There is no event then (`disconnect`).
 --  2. The price is paid and the event begins (`disconnect`).
 --  3. OUT_OF_RESOURCES at the last level (`disconnected`).
 --  4. INVALID_PARAMETER if the controller is not live, if a driver is given that has no binding, or if a child is given
@@ -134,7 +134,7 @@ module _ {S : Type 0} (o : Operations S) where
   itself_stopped below scope controller (Some block) w =
       after_itself controller block.handle (below.call scope (stop_call below.number block controller []) [] w)
 
-  -- only if no child of it is left, and the controller is live; its binding is read again
+  -- the driver itself is stopped only if it has no child left and the controller is live; its binding is read again
   abbrev pub then_itself : Level S → Scope → (agent : ℕ) → Disconnection → (children : List ℕ) → Bool × S → StopTurn × S
   then_itself below scope agent d children (false, w) = (Failed, w)
   then_itself below scope agent d children (true, w) =
@@ -150,7 +150,7 @@ module _ {S : Type 0} (o : Operations S) where
   turn_by below scope agent d children (Some block) w =
       then_itself below scope agent d children (children_stopped below scope block d.controller (children_to_stop d.child children) w)
 
-  -- a driver is passed over if the child that is given is not its
+  -- a driver is passed over if a child is given that is not one of its children
   abbrev pub turn_with : Level S → Scope → (agent : ℕ) → Disconnection → (children : List ℕ) → S → StopTurn × S
   turn_with below scope agent d children w =
       if is_of_another d.child children then (Passed, w)

@@ -63,7 +63,7 @@ bus_code at =
 abbrev pub is_bus_driver_call : Call → Bool
 is_bus_driver_call call = nat_eq call.driver bus_driver && nat_eq call.binding BUS_BINDING
 
--- a function of the bus driver is its own only by its own binding
+-- a function of the bus driver is called as its own only by its own binding
 abbrev pub native_code : Option Code → Call → Code
 native_code None call = NoCode
 native_code (Some code) call = if is_bus_driver_call call then code else if nat_eq call.binding 0 then NoCode else Foreign
@@ -72,7 +72,7 @@ abbrev pub code_by : (thunk : Option ℕ) → Call → Code
 code_by (Some entry) call = Ebc entry
 code_by None call = native_code (bus_code call.address) call
 
--- an entry point is called at its address, all else by a thunk or as native code
+-- an entry point is called at its address, everything else by a thunk or as native code
 abbrev pub code_for : CallKind → Call → Soft → Code
 code_for Entry call soft = Ebc call.address
 code_for Supported call soft = code_by (thunk_at call.address soft) call
@@ -104,7 +104,7 @@ commits Unload outcome = is_success outcome
 
 -- ---- rule 5
 
--- how a call ends whose run ends so
+-- how a call ends if its run ends like this
 abbrev pub outcome_of : RunEnd → Outcome
 outcome_of (Returned value) = Value (record { 0 = value })
 outcome_of (Over outcome) = outcome
@@ -123,7 +123,7 @@ module _ {S : Type 0} (o : Operations S) where
   abbrev pub popped : (level : ℕ) → RunEnd × S → RunEnd × S
   popped level r = (r.0, o.make (pops level) r.1)
 
-  -- the stack has the arguments, and the list of children beside it
+  -- the stack has the arguments and, next to them, the list of children
   unfoldable pub ran_on_stack : Settings → Option (Level S) → Scope → (level entry : ℕ) → (slots children : List ℕ) → S → RunEnd × S
   ran_on_stack settings below scope level entry slots children w =
       popped level (run o settings below scope level (entry_cpu level entry) (o.make (pushes level slots children) w))
@@ -153,7 +153,7 @@ module _ {S : Type 0} (o : Operations S) where
       o.make (begins_event scope.event (event_kind call.kind) call.driver call.controller call.extra)
       (o.make (pays CALL_PRICE) (o.make (caps settings.call_budget) w))
 
-  -- and what it was not allowed to spend is the caller's again
+  -- afterwards the units that it was not allowed to spend are the caller's again
   abbrev pub ended : Settings → (before : State) → Outcome × S → Outcome × S
   ended settings before r = (
     r.0,

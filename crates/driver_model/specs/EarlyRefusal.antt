@@ -1,9 +1,9 @@
 -- An uninstall of several interfaces that is refused for certain before a driver is called (UEFI 2.8, 7.3:
 -- UninstallMultipleProtocolInterfaces).
 --
--- It comes to a pair that is refused, and no interface before that one has a record with BY_CHILD_CONTROLLER, BY_DRIVER or
--- EXCLUSIVE. So no driver is disconnected and no handle is connected again up to there: nothing happens but that interfaces
--- go with their records, and they come back.
+-- It reaches a pair that is refused, and no interface before that one has a record with BY_CHILD_CONTROLLER, BY_DRIVER
+-- or EXCLUSIVE. So up to there no driver is disconnected and no handle is connected again. All that happens is that
+-- interfaces are removed with their records, and come back.
 use Rattle.std.specs.Prelude.{◌≡◌, Bool, true, false, ◌&&◌, ◌||◌, not, List, [], ◌∷◌, ◌++◌, Option, None}
 use Rattle.std.specs.List.{list_any}
 use Rattle.fw_types.specs.declared.attr.TheConstants.Attr.{AGENT_BITS}
@@ -20,7 +20,7 @@ use Rattle.driver_model.specs.declared.call.Scope.{Scope}
 use Rattle.driver_model.specs.declared.request.Remover.TheVariants.{ADriver}
 use Rattle.driver_model.specs.declared.settings.Settings.{Settings}
 
--- whether one of these pairs is of a pair's handle and protocol
+-- whether one of these pairs has the handle and the protocol of a pair
 abbrev pub is_listed : HandleInterface → List HandleInterface → Bool
 is_listed i pairs = list_any (λ (one : HandleInterface). is_same one.handle one.guid i.handle i.guid) pairs
 
@@ -34,7 +34,7 @@ is_refused_after before i soft =
 abbrev pub is_in_use : HandleInterface → Soft → Bool
 is_in_use i soft = list_any (is_meant None None AGENT_BITS) (records_on i soft)
 
--- the pairs in their order, after those that went before them
+-- whether one of the pairs is refused after those that went before it, and no earlier one is in use
 abbrev pub refused_after : (before : List HandleInterface) → List HandleInterface → Soft → Bool
 refused_after before [] soft = false
 refused_after before (i ∷ interfaces) soft =

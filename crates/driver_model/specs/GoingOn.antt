@@ -1,4 +1,4 @@
--- What a service goes on with that enters the driver model again (UEFI 2.8, 7.3).
+-- How a service goes on if it enters the driver model again (UEFI 2.8, 7.3).
 use Rattle.std.specs.Prelude.{Option}
 use Rattle.service_model.specs.declared.call.Reentry.{Reentry}
 use Rattle.service_model.specs.declared.call.Reentry.TheVariants.{Connect, Disconnect, Remove, Uninstall, UninstallMany}

@@ -1,6 +1,6 @@
--- A run of a driver's code (UEFI 2.8, chapter 22 'EFI Byte Code Virtual Machine'): turns, one after the other, until one
--- ends the run. At the exit address the run is done, with the value of R7 and at no cost. Each instruction costs a unit,
--- also one that traps.
+-- A run of a driver's code (UEFI 2.8, chapter 22 'EFI Byte Code Virtual Machine'): turns, one after the other, until
+-- one ends the run. At the exit address the run is done, with the value of R7 and at no cost. Each instruction costs a
+-- unit, even one that traps.
 use Rattle.std.specs.Prelude.{ℕ, zero, suc, nat_eq, Option, Some, None, slice_index, if◌then◌else◌}
 use Rattle.fw_types.specs.declared.event.Cause.TheVariants.{Budget}
 use Rattle.fw_types.specs.declared.event.Outcome.TheVariants.{Trapped}
@@ -56,11 +56,11 @@ module _ {S : Type 0} (o : Operations S) where
   abbrev pub after_turn : (Cpu → S → RunEnd × S) → Turn S → RunEnd × S
   after_turn go_on t = unless_over t.end go_on t.cpu t.world
 
-  -- so many turns at most
+  -- at most so many turns
   unfoldable pub turns : (fuel : ℕ) → Settings → Option (Level S) → Scope → (level : ℕ) → Cpu → S → RunEnd × S
   turns zero settings below scope level cpu w = (Over (Trapped Budget), w)
   turns (suc fuel) settings below scope level cpu w = after_turn (turns fuel settings below scope level) (turn settings below scope level cpu w)
 
-  -- all of them: each turn but the last costs a unit, so there are no more than units are left, and one
+  -- all turns: each turn except the last costs a unit, so there are at most as many turns as units left, plus one
   unfoldable pub run : Settings → Option (Level S) → Scope → (level : ℕ) → Cpu → S → RunEnd × S
   run settings below scope level cpu w = turns (suc (o.see w).hard.units) settings below scope level cpu w

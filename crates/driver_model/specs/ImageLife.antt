@@ -6,7 +6,7 @@
 --     another kind, and otherwise LOAD_ERROR.
 --  2. Laying the image costs a unit for each 64 bytes of its size, rounded up. ABORTED if fewer are left; nothing is
 --     spent then.
---  3. OUT_OF_RESOURCES if a limit is met; the laying stays paid.
+--  3. OUT_OF_RESOURCES if a limit is met. The units for laying the image stay spent.
 --  4. The image is laid at the next image address, and a new handle gets its loaded image block as an interface of the
 --     firmware. Its entry point is called with the handle and the system table.
 --  5. If that does not succeed, the soft part is as it was before the image was added. The status is the value of the entry
@@ -68,7 +68,7 @@ entry_call image entry = record {
 
 -- ---- rule 5
 
--- the status of a load whose driver call ended so, if it did not succeed
+-- the status of a load whose driver call had this outcome, if the call did not succeed
 abbrev pub failure_of : Outcome → Option Status
 failure_of (Value status) = if is_error status then Some status else None
 failure_of (Trapped cause) = Some ABORTED
@@ -108,6 +108,6 @@ module _ {S : Type 0} (o : Operations S) where
   unless_refused below scope file device (Some refusal) w = record { note = Refused refusal; status = refusal_status refusal; world = w }
   unless_refused below scope file device None w = accepted below scope file device w
 
-  -- all rules: of a file's bytes, with the device of the image or 0
+  -- all rules, for the bytes of a file, with the device of the image or 0
   unfoldable pub image_loaded : Level S → Scope → (file : List ℕ) → (device : ℕ) → S → Load S
   image_loaded below scope file device w = unless_refused below scope file device (refusal_of file) w

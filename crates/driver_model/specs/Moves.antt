@@ -1,6 +1,6 @@
--- The moves of a machine: each change that activations, driver calls and runs make, as a word. The definitions of
--- this crate say which moves are made, and in what order. What a machine is made of is left open in them, so that the
--- same text can be read of the state alone, and of a state with the story of its moves.
+-- The moves of a machine: each change that activations, driver calls and runs make, as a word. The definitions of this
+-- crate say which moves are made, and in what order. They leave open what a machine is made of. So the same text
+-- applies to the state alone, and to a state with the history of its moves.
 use Rattle.std.specs.Prelude.{ℕ, List}
 use Rattle.fw_types.specs.declared.event.EventKind.{EventKind}
 use Rattle.fw_types.specs.declared.event.Outcome.{Outcome}
@@ -40,7 +40,7 @@ pub data Move : Type 0 where
   -- the stack of a driver call or of a thunk
   pushes : (level : ℕ) → (slots children : List ℕ) → Move
   pops : (level : ℕ) → Move
-  -- the end of a driver call: the task priority level of before, and an undo
+  -- the end of a driver call: the task priority level that was there before, and an undo
   sets_tpl : ℕ → Move
   puts_back : Soft → Move
   -- open records and interfaces
@@ -48,7 +48,7 @@ pub data Move : Type 0 where
   closes_child : (controller agent child : ℕ) → Move
   drops_weak : (handle : ℕ) → List ℕ → Move
   uninstalls : (handle : ℕ) → List ℕ → Move
-  -- images: one is added; one goes, with all that belongs to it
+  -- images: one is added; one is removed, with all that belongs to it
   adds_image : (bytes : List ℕ) → (entry subsystem device : ℕ) → Move
   drops_all : (image : ℕ) → Move
   -- the bus driver: it opens root bridge I/O; a child is made for a function; the images of an option ROM become the bus list

@@ -3,7 +3,7 @@
 --
 -- The rules, in their order:
 --  1. DisconnectController(handle, driver, NULL) at the level of the caller (`removed`).
---  2. Its OUT_OF_RESOURCES and ABORTED are the answer of the open (`after_removal`).
+--  2. If it answers OUT_OF_RESOURCES or ABORTED, that is the answer of the open (`after_removal`).
 --  3. Otherwise the second look is the answer (`looked_again` of `service_model`): the open's own conditions again, then
 --     ACCESS_DENIED if any record has BY_DRIVER or EXCLUSIVE.
 use Rattle.std.specs.Prelude.{Bool, ◌||◌, nat_eq, Option, if◌then◌else◌}

@@ -49,7 +49,7 @@ OthersGoByVersion =
     → order controller context platform soft
     ≡ chosen_first controller context platform soft ++ filter (λ block. not (is_among (chosen_first controller context platform soft) block)) (version_group soft)
 
--- a driver more comes last among the first places, unless it is there
+-- one more driver comes last among the first places, unless it is there already
 abbrev pub OneMoreComesLast : Type 0
 OneMoreComesLast =
     (blocks : List BindingBlock) (block : BindingBlock)

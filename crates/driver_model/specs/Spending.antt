@@ -27,8 +27,8 @@ use Rattle.driver_model.specs.declared.settings.Settings.{Settings}
 abbrev pub without_result : Event → Event
 without_result event = record event { result = pending_outcome }
 
--- Units never rise. Events only come: those of before are there, in their places, and say the same, except that one that
--- had not ended may have. Each event that came is paid with the price of a driver call.
+-- Units never rise. Events are only added: the earlier ones are still there, in their places, and unchanged except
+-- for their results. Each event that is added is paid with the price of a driver call.
 pub record Spends (old new : Hard) : Type 0 where
   pub falls : new.units ≤ old.units
   pub grows : length old.events ≤ length new.events
@@ -79,7 +79,7 @@ GoingOnCosts =
     → (turn plain settings (below plain settings room) scope level cpu w).end ≡ None
     → (turn plain settings (below plain settings room) scope level cpu w).world.hard.units < w.hard.units
 
--- more turns than units are left change nothing
+-- allowing more turns than units are left changes nothing
 abbrev pub MoreTurnsChangeNothing : Type 0
 MoreTurnsChangeNothing =
     (settings : Settings) (room : ℕ) (scope : Scope) (level fuel : ℕ) (cpu : Cpu) (w : State) → room ≤ MOST_LEVELS → w.hard.units < fuel

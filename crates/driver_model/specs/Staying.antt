@@ -1,4 +1,4 @@
--- What activations, driver calls, runs, loads and unloads leave, at all levels: what holds of every world goes on to hold,
+-- What activations, driver calls, runs, loads and unloads leave, at all levels: what holds of every world still holds,
 -- the same stacks are there, and no byte of a segment that code may not write changes while the segment is mapped.
 use Rattle.std.specs.Prelude.{◌≡◌, ◌<◌, ◌≤◌, ℕ, suc, ◌-◌, Bool, true, ◌||◌, ◌&&◌, nat_le, List, [], length}
 use Rattle.std.specs.List.{list_all}
@@ -134,7 +134,7 @@ UnloadsStay =
     (settings : Settings) (room : ℕ) (scope : Scope) (handle : ℕ) (w : State) → room < MOST_LEVELS → CanRun (level_with (suc room)) w.soft
     → Stays w.soft (unloaded plain (level_over plain settings (level_with room) (below plain settings room)) scope handle w).1.soft
 
--- ---- where it begins, and what code needs of it
+-- ---- how it begins, and what code needs of it
 
 -- between commands no stack is there, so a command can run
 abbrev pub RestCanRun : Type 0
@@ -144,8 +144,8 @@ RestCanRun = (soft : Soft) → IsKept soft → stacks soft ≡ [] → CanRun (le
 abbrev pub FreeStays : Type 0
 FreeStays = (old new : Soft) (room : ℕ) (marks : List Soft) → Stays old new → is_free room (stacks old) marks ≡ true → is_free room (stacks new) marks ≡ true
 
--- Where the device path of a command may lie there is nothing later if nothing was there, and nothing but the path if only
--- that was there.
+-- In the place for the device path of a command, there is nothing later if nothing was there, and only the path if only
+-- the path was there.
 abbrev pub NoPathStays : Type 0
 NoPathStays = (old new : Soft) → Stays old new → has_no_path old.memory ≡ true → has_no_path new.memory ≡ true
 

@@ -26,7 +26,7 @@ entry_from place number = plus (above place 4) (twos_complement 4 number)
 abbrev pub is_even : ℕ → Bool
 is_even at = nat_eq (at % 2) 0
 
--- a test that must hold, or else the code traps; and what comes after it
+-- a test that must hold, or the code traps; and what comes after it
 abbrev pub must : Bool → Cause → Result Unit Cause
 must test cause = if test then Ok tt else Err cause
 

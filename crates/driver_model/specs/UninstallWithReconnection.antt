@@ -4,12 +4,12 @@
 --  1. NOT_FOUND if the handle does not have that interface. ACCESS_DENIED if a driver asks for an interface that the
 --     firmware owns (`uninstalled`).
 --  2. If a driver manages the handle by the interface, DisconnectController(handle, driver, NULL) at the level of the
---     caller. Its OUT_OF_RESOURCES and ABORTED are the answer (`released`, `after_release`).
+--     caller. If it answers OUT_OF_RESOURCES or ABORTED, that is the answer (`released`, `after_release`).
 --  3. NOT_FOUND if the handle does not have that interface any more (`after_release`).
---  4. The records with BY_HANDLE_PROTOCOL, GET_PROTOCOL and TEST_PROTOCOL go (`after_release`).
+--  4. The records with BY_HANDLE_PROTOCOL, GET_PROTOCOL and TEST_PROTOCOL are removed (`after_release`).
 --  5. If any record is left, the handle is connected again at the level of the caller, with no context, no path, and its
 --     children too. Whatever that answers, the answer is ACCESS_DENIED (`unless_open`).
---  6. Otherwise the interface goes, and the answer is SUCCESS (`unless_open`).
+--  6. Otherwise the interface is removed, and the answer is SUCCESS (`unless_open`).
 use Rattle.std.specs.Prelude.{ℕ, Bool, true, false, ◌&&◌, not, nat_eq, List, [], ◌∷◌, find, Option, Some, None, option_map, if◌then◌else◌}
 use Rattle.fw_types.specs.declared.status.Status.{Status}
 use Rattle.fw_types.specs.declared.status.TheConstants.Status.{ACCESS_DENIED, INVALID_PARAMETER, NOT_FOUND, SUCCESS}
@@ -36,14 +36,14 @@ use Rattle.driver_model.specs.declared.settings.Settings.{Settings}
 abbrev pub interface_on : HandleInterface → Soft → Option (ℕ × ℕ)
 interface_on i soft = interface_of i.handle i.guid soft.database
 
--- For the firmware, an interface of another owner is not there.
+-- For the firmware, an interface of another owner counts as absent.
 abbrev pub is_first_there : Remover → (interface : ℕ) → Option (ℕ × ℕ) → Bool
 is_first_there remover interface None = false
 is_first_there TheFirmware interface (Some found) = nat_eq found.0 interface && nat_eq found.1 firmware
 is_first_there ADriver interface (Some found) = nat_eq found.0 interface
 
--- At the second look, for a driver an interface of the firmware is not there. No run comes to that: a handle that is
--- live never gains an interface of the firmware.
+-- At the second look, for a driver an interface of the firmware counts as absent. No run gets to that case: a handle
+-- that is live never gains an interface of the firmware.
 abbrev pub is_still_there : Remover → (interface : ℕ) → Option (ℕ × ℕ) → Bool
 is_still_there remover interface None = false
 is_still_there TheFirmware interface (Some found) = nat_eq found.0 interface && nat_eq found.1 firmware

@@ -40,14 +40,14 @@ use Rattle.driver_model.specs.declared.settings.Settings.{Settings}
 abbrev pub SweepsStay : Type 0
 SweepsStay = (image : ℕ) (soft : Soft) → IsKept soft → Stays soft (image_swept image soft)
 
--- ---- what goes with an image
+-- ---- what is removed with an image
 
 -- whether an image owns an interface
 abbrev pub owns_any : (image : ℕ) → Database → Bool
 owns_any image db =
     list_any (λ (entry : HandleEntry). list_any (λ (one : Interface). nat_eq one.owner image) entry.interfaces) db.handles
 
--- whether there is a record of one that was an agent of an image in an earlier database
+-- whether there is a record whose agent was one of an image's agents in an earlier database
 abbrev pub has_record_of : (image : ℕ) → (before : Database) → RecordTable → Bool
 has_record_of image before table = list_any (λ (one : KeyedRecord). is_agent_of image before one.rec.agent) table.entries
 
@@ -141,7 +141,7 @@ CallsUnloadNone =
     → room < MOST_LEVELS → has_sixteen call.slots ≡ true → fits_list children ≡ true → CanRun (level_with (suc room)) w.soft
     → image_of handle w.soft.images ≡ Some image → image_of handle (left_by_call settings room scope call children w).soft.images ≡ Some image
 
--- An unload that succeeds is that of a loaded image. It leaves what the sweep makes of what the handler left.
+-- An unload that succeeds is that of a loaded image. It leaves what the handler left, after the sweep.
 abbrev pub UnloadsThatSucceedSweep : Type 0
 UnloadsThatSucceedSweep =
     (settings : Settings) (room : ℕ) (scope : Scope) (handle : ℕ) (w : State) → status_of_unload settings room scope handle w ≡ SUCCESS
@@ -157,7 +157,7 @@ UnloadedImagesAreGone =
     → status_of_unload settings room scope image.handle w ≡ SUCCESS
     → IsGone image (left_by_handler settings room scope image w).soft (left_by_unload settings room scope image.handle w).soft
 
--- All else is as the handler left it.
+-- Everything else is as the handler left it.
 abbrev pub UnloadsLeaveOthers : Type 0
 UnloadsLeaveOthers =
     (settings : Settings) (room : ℕ) (scope : Scope) (image : LoadedImage) (w : State)

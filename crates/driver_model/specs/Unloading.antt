@@ -8,7 +8,7 @@
 --  3. The handler is called with the handle of the image. If that does not succeed, the status is its value, or ABORTED
 --     after a trap.
 --  4. If the image is in use then, the soft part is as before the unload, and the status is ACCESS_DENIED.
---  5. Otherwise the image goes in one sweep, and the status is SUCCESS.
+--  5. Otherwise the image is removed in one sweep, and the status is SUCCESS.
 use Rattle.std.specs.Prelude.{ℕ, Bool, true, false, nat_eq, [], ◌∷◌, replicate, Option, Some, None, if◌then◌else◌}
 use Rattle.fw_types.specs.Layout.{uint64_at}
 use Rattle.fw_types.specs.declared.event.Outcome.{Outcome}

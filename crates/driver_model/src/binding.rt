@@ -4,7 +4,8 @@ use fw_types::Handle;
 /// multiple of its own size (UEFI 2.8, 11.1: EFI_DRIVER_BINDING_PROTOCOL).
 pub const BINDING_SIZE: u64 = 48;
 
-/// A driver binding, as its 48 bytes in guest memory say (UEFI 2.8, 11.1: EFI Driver Binding Protocol).
+/// A driver binding, as it is read from its 48 bytes in guest memory (UEFI 2.8, 11.1: EFI Driver
+/// Binding Protocol).
 #[derive(Clone, Copy, Debug, PartialEq, Eq)]
 pub struct BindingBlock {
     /// The handle that has the binding.

@@ -11,7 +11,7 @@ pub enum PathChoice {
     AllFunctions,
     /// An End node: no function.
     NoFunction,
-    /// A PCI node: the function at this place of the root bridge's bus.
+    /// A PCI node: the function with these numbers on the root bridge's bus.
     OneFunction { device: u8, function: u8 },
 }
 

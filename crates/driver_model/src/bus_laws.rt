@@ -1,5 +1,5 @@
-//! Laws of the PCI bus driver (UEFI 2.8, 14.3.2: PCI Bus Drivers), over the definitions alone: what holds where it changes
-//! the state, by the tests that come before. Each is the contract of a function with no code.
+//! Laws of the PCI bus driver (UEFI 2.8, 14.3.2: PCI Bus Drivers), over the definitions alone: what holds whenever it
+//! changes the state, because of the tests that come before. Each is the contract of a function with no code.
 
 ghost use Rattle.driver_model.specs.BusLaws.{AllMayGo, ChildCanBeIn, DeadIsNoChild, DeadIsUnsupported, DriversMayUninstall, RootCanBeOpened, SupportedIsRoot};
 

@@ -25,7 +25,7 @@ pub struct Call {
     pub driver: u64,
     /// The handle of the controller, or 0.
     pub controller: u64,
-    /// For Stop, the number of children; else 0.
+    /// For Stop, the number of children; otherwise 0.
     pub extra: u64,
     /// The address that is called.
     pub address: u64,
@@ -40,14 +40,14 @@ pub struct Call {
 pub enum RunEnd {
     /// It reached its exit address with this value in R7, which its caller gets.
     Returned(u64),
-    /// The driver call in which it runs ends so.
+    /// The driver call in which it runs ends like this.
     Over(Outcome),
 }
 
-/// In what something is done.
+/// The event inside which something is done.
 #[derive(Clone, Copy, Debug, PartialEq, Eq)]
 pub struct Scope {
-    /// The event inside which it is done, or 0 for the command itself.
+    /// The event, or 0 for the command itself.
     pub event: u64,
 }
 

@@ -9,9 +9,8 @@ ghost use Rattle.driver_model.specs.Spending.{CallsSpend, ConnectsSpend, Disconn
 use service_model::laws::{second_looks_spend_nothing, services_leave};
 
 /// What a driver call leaves (UEFI 2.8, 11.1: EFI Driver Binding Protocol). If it does not commit, the soft part
-/// is as it was, whatever the call and all that it called did; Supported never commits. The task priority
-/// level is as it was. After the events of before comes the event of the call, unless the call may not spend
-/// its price.
+/// is as it was, whatever the call and all that it called did; Supported never commits. The task priority level
+/// is as it was. After the earlier events comes the event of the call, unless the call may not spend its price.
 pub fn calls_leave()
     ensures uncommitted { UncommittedCallsLeave }
     ensures supported { SupportedLeaves }
@@ -22,8 +21,8 @@ pub fn calls_leave()
     second_looks_spend_nothing();
 }
 
-/// What is spent, through all levels. Units never rise. Events only come: those of before are there, in their
-/// places, and say the same, except that one that had not ended may have. Each event is paid.
+/// What is spent, through all levels. Units never rise. Events are only added: the earlier ones are still there,
+/// in their places, and unchanged except for their results. Each event is paid.
 pub fn all_is_paid()
     ensures calls { CallsSpend }
     ensures runs { RunsSpend }
@@ -35,8 +34,8 @@ pub fn all_is_paid()
     second_looks_spend_nothing();
 }
 
-/// Driver calls, runs, activations, loads and unloads change the state by single moves alone, each where it
-/// can be made.
+/// Driver calls, runs, activations, loads and unloads change the state only by single moves, and each move can
+/// be made at the point at which it is made.
 pub fn all_are_chains()
     ensures calls { CallsAreChains }
     ensures runs { RunsAreChains }

@@ -28,10 +28,10 @@ pub fn order_of_drivers()
     ensures versions { VersionsFall }
 {}
 
-/// How lists of drivers are put in order. All bindings go by rising handle. A list of them in which
-/// Versions never rise, and drivers with the same Version stay in their order by handle, is their order
-/// by Version. Of a list in which a driver may be more than once, the first places are taken one driver
-/// at a time: a driver more comes last, unless it is there.
+/// How lists of drivers are put in order. All bindings go by rising handle. A list of them in which Versions
+/// never rise, and drivers with the same Version stay in their order by handle, is their order by Version.
+/// Of a list in which a driver may be more than once, the first places are taken one driver at a time: one
+/// more driver comes last, unless it is there already.
 pub fn lists_of_drivers()
     ensures handles { BindingsRise }
     ensures versions { FallingIsByVersion }

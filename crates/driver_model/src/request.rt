@@ -31,10 +31,10 @@ pub enum Remover {
     ADriver,
 }
 
-/// What a driver's turn in a disconnect came to.
+/// How a driver's turn in a disconnect ended.
 #[derive(Clone, Copy, Debug, PartialEq, Eq)]
 pub enum StopTurn {
-    /// The driver was passed over, or its child alone was stopped.
+    /// The driver was passed over, or only its child was stopped.
     Passed,
     /// A Stop of it did not succeed, or it has no binding.
     Failed,

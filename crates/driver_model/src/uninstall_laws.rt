@@ -3,9 +3,9 @@
 
 ghost use Rattle.driver_model.specs.EarlyRefusal.{EarlyRefusalsChangeNothing};
 
-/// A list that comes to a pair that is refused, after pairs of interfaces without a record that is
-/// BY_CHILD_CONTROLLER, BY_DRIVER or EXCLUSIVE, answers INVALID_PARAMETER and changes nothing, units
-/// and events included.
+/// A list that reaches a pair that is refused, after pairs of interfaces without a record that is
+/// BY_CHILD_CONTROLLER, BY_DRIVER or EXCLUSIVE, is answered with INVALID_PARAMETER and changes
+/// nothing, units and events included.
 pub fn early_refusals_change_nothing()
     ensures { EarlyRefusalsChangeNothing }
 {}

@@ -25,8 +25,8 @@ pub fn unloads_stay()
     ensures thunks { ThunksEnterLoadedImages }
 {}
 
-/// The units never rise in an unload. Events only come, and each that comes is paid with the price of
-/// a driver call.
+/// The units never rise in an unload. Events are only added, and each one that is added is paid
+/// with the price of a driver call.
 pub fn unloads_spend()
     ensures { UnloadsSpend }
 {}
@@ -49,8 +49,8 @@ pub fn unloaded_images_are_gone()
     ensures gone { UnloadedImagesAreGone }
 {}
 
-/// All else is as the handler left it: the protocol interfaces that the image does not own, the
-/// open records of other agents on interfaces and with handles that are still there, the other
+/// Everything else is as the handler left it: the protocol interfaces that the image does not own,
+/// the open records of other agents on interfaces and with handles that are still there, the other
 /// images with the thunks that enter them, and every other segment of memory. The pool memory that
 /// the image's driver allocated is among these.
 pub fn unloads_leave_others()

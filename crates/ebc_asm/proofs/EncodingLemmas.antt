@@ -43,7 +43,7 @@ both true true h = (refl, refl)
 both true false h = cc
 both false b h = cc
 
--- what is of a form is spelled
+-- an instruction of a form is spelled
 spells : (form : Form) (instr : Instr) → form_in_table instr.op instr.mods instr.operands ≡ Some form → is_of_form form instr ≡ true → Spells (spelling form instr instr.mods instr.operands) instr
 spells form instr listed h =
     let g = both _ _ h in

@@ -141,7 +141,7 @@ or_false : (p : Bool) → p ≡ p || false
 or_false true = refl
 or_false false = refl
 
--- what one operand or both show, if there is no operand 2 alone
+-- what one operand or both show, if there is no operand 2 without an operand 1
 both_first : (one two : Option Slot) (instr : Instr) → is_some one || not (is_some two) ≡ true
     → (both_add one two instr).first ≡ cond (of_slot (shows_first instr.mods instr.operands) false one || of_slot (shows_first instr.mods instr.operands) false two) instr.first 0
 both_first None None instr e = refl

@@ -15,7 +15,7 @@ prepended : (done : List ℕ) (b : ℕ) (reading : Result (List ℕ) AsmKind) �
 prepended done b (Ok bs) = ap Ok (sym (append_assoc done (b ∷ []) bs))
 prepended done b (Err refusal) = refl
 
--- one number more, and one that is refused
+-- one more number, and one that is refused
 pub number-reading : (done word : List ℕ) (words : List (List ℕ)) (b : ℕ) → byte_number word ≡ Ok b → rest_of done (bytes_of_words (word ∷ words)) ≡ rest_of (done ++ b ∷ []) (bytes_of_words words)
 number-reading done word words b reading =
     ap (λ r. rest_of done (r >>= λ b. bytes_of_words words >>= λ bs. Ok (b ∷ bs))) reading ∙ prepended done b (bytes_of_words words)
@@ -34,7 +34,7 @@ words-split words word i lt e =
 
 pub ruleset number_steps = (number-reading, number-refused, number-last, words-split)
 
--- there is at most one word more than there are bytes
+-- there is at most one more word than there are bytes
 pub number_words-few : (text : List ℕ) → length (number_words text) ≤ length text + 1
 number_words-few text =
     let parts : length (slice_split is_break text) ≡ count_by is_break text + 1 = length-slice_split is_break text in

@@ -18,7 +18,7 @@ digits_value_after-ge base n (c ∷ cs) h =
     let more : n * base + digit_value c ≤ digits_value_after base (n * base + digit_value c) cs = digits_value_after-ge base (n * base + digit_value c) cs h in
     omega arith
 
--- one digit more
+-- one more digit
 pub value-step : (base n i c : ℕ) (ds : List ℕ) → i < length ds → c ≡ get_or ds i 0 → digits_value_after base n (drop i ds) ≡ digits_value_after base (n * base + digit_value c) (drop (i + 1) ds)
 value-step base n i c ds lt e =
     let split : drop i ds ≡ c ∷ drop (i + 1) ds = rw (add-one, e) (drop-cons ds i 0 lt) in

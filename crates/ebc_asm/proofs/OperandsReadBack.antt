@@ -136,7 +136,7 @@ flags_are_read : (b : Bool) (labels : Option (List Label)) (next : ℕ) → slot
 flags_are_read true labels next = refl
 flags_are_read false labels next = refl
 
--- an operand by a register, from what the test says of it
+-- an operand by a register, from what the test says about it
 register_slot_is_read : (side : Side) (shown_by : Bits) (size : Size) (direct : Suffix) (indirect : Option Suffix) (instr : Instr) (f s : ℕ) (labels : Option (List Label)) (next : ℕ)
     → (is_some indirect || not (is_indirect side instr))
     && cond (shows shown_by instr) (is_something (suffix_of direct indirect (is_indirect side instr)) && nat_eq (of_side side f s) (byte_count size)) true ≡ true

@@ -42,7 +42,7 @@ both_add None two instr = no_contribution
 both_add (Some one) None instr = slot_adds one instr
 both_add (Some one) (Some two) instr = union_of (slot_adds one instr) (slot_adds two instr)
 
--- an instruction of these bits alone
+-- an instruction with only these bits
 abbrev pub bare : ℕ → ℕ → Instr
 bare mods operands = record { op = 0; mods = mods; operands = operands; first = 0; second = 0 }
 

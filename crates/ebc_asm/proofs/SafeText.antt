@@ -1,4 +1,4 @@
--- Characters that part nothing, and lists of them.
+-- Characters that separate nothing, and lists of them.
 use Rattle.std.proofs.Common.{◌≡◌, ℕ, zero, suc, ◌+◌, ◌-◌, ◌*◌, ◌/◌, ◌%◌, ◌<◌, ◌≤◌, Bool, true, false, not, ◌||◌, nat_eq, List, [], ◌∷◌, ◌++◌, length, take, drop, replicate, cond, refl, ap, ◌∙◌, arith, ℤ, pos, negsuc}
 use Rattle.std.specs.Prelude.{slice_index, codes}
 use Rattle.std.specs.List.{list_all, list_any, prefix_len, position_or_len, before_first, after_first}
@@ -82,7 +82,7 @@ after_none p xs a = ap (λ n. drop (n + 1) xs) (position_none p xs a) ∙ drop_w
 
 -- ---- characters
 
--- characters that part nothing
+-- characters that separate nothing
 abbrev pub is_safe : ℕ → Bool
 is_safe c = not (list_any (nat_eq c) (9 ∷ 10 ∷ 13 ∷ 32 ∷ 44 ∷ 58 ∷ 59 ∷ []))
 
@@ -245,7 +245,7 @@ flags_safe : (b : Bool) → list_all is_safe (cond b (codes "IP") (codes "FLAGS"
 flags_safe true = refl
 flags_safe false = refl
 
--- the text of an operand parts nothing
+-- the text of an operand has no separators
 pub slot_safe : (slot : Slot) (instr : Instr) → list_all is_safe (slot_text slot instr) ≡ true
 slot_safe (Register side shown_by size direct indirect) instr =
     register_safe (is_indirect side instr) (shows shown_by instr) (register side instr) (suffix_text (suffix_of direct indirect (is_indirect side instr)) size (part side instr)) (suffix_safe (suffix_of direct indirect (is_indirect side instr)) size (part side instr))

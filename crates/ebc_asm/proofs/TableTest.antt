@@ -1,4 +1,4 @@
--- The test of the table of names, computed, and what it says of each entry.
+-- The test of the table of names, computed, and what it says about each entry.
 use Rattle.std.proofs.Common.{◌≡◌, ℕ, ◌+◌, ◌*◌, ◌/◌, ◌%◌, ◌<◌, Bool, true, not, ◌&&◌, ◌||◌, nat_lt, List, [], ◌∷◌, length, refl, subst, arith}
 use Rattle.std.specs.Prelude.{bytes_eq, codes, is_some}
 use Rattle.std.specs.List.{list_all}
@@ -55,11 +55,11 @@ each_op_good op small =
 
 -- ---- the texts of names
 
--- A name has such characters alone and is not `.byte`; one that has an operand 2 has an operand 1.
+-- A name has only such characters and is not `.byte`; one that has an operand 2 has an operand 1.
 abbrev pub is_name : Name → Bool
 is_name n = list_all is_safe n.text && (nat_lt 0 (length n.text) && (not (bytes_eq n.text (codes ".byte")) && (is_some n.pattern.one || not (is_some n.pattern.two))))
 
--- no two names have one text
+-- no two names have the same text
 abbrev pub are_apart : List Name → Bool
 are_apart [] = true
 are_apart (n ∷ ns) = list_all (λ m. not (bytes_eq n.text m.text)) ns && are_apart ns

@@ -1,6 +1,6 @@
 -- The assembler. A text has lines: blank ones and comments after `;`, labels `name:`, `.byte` with
 -- numbers, and instructions as the listing writes them. The place of a label is that of the bytes
--- after it. The first line that is refused counts, and its first kind from left to right.
+-- after it. A refusal has the first line that is refused, and its first fault from left to right.
 use Rattle.std.specs.Prelude.{◌≡◌, ℕ, ◌+◌, ◌-◌, ◌*◌, ◌/◌, ◌%◌, ◌^◌, Bool, false, not, ◌&&◌, ◌||◌, nat_eq, nat_lt, nat_le, bit_and, bit_or, bytes_eq, codes, List, [], ◌∷◌, ◌++◌, length, take, drop, filter, find, slice_index, Option, Some, None, is_some, Result, Ok, Err, Vec, if◌then◌else◌}
 use Rattle.std.specs.declared.alloc.Global.{Global}
 use Rattle.std.specs.Option.{option_map, option_map_or}
@@ -238,8 +238,8 @@ begins_indirect text = nat_eq (slice_index text 0) 64
 abbrev pub after_at_sign : List ℕ → List ℕ
 after_at_sign text = if begins_indirect text then drop 1 text else text
 
--- A number's place has no other operand in it, which would be wrong: none, a register, an index or a
--- label. What else is no number is a malformed one.
+-- In the place of a number another operand is wrong: an empty text, a register, an index or a label.
+-- Anything else that is no number is a malformed number.
 abbrev pub is_other_operand : List ℕ → Bool
 is_other_operand text =
     nat_eq (length text) 0 || list_any (nat_eq (slice_index text 0)) (codes "R@[=")
@@ -327,7 +327,7 @@ label_of text =
     let name : List ℕ = take (length word - 1) word in
     if nat_eq (slice_index word (length word - 1)) 58 && is_label_name name then Some name else None
 
--- the numbers after `.byte`, parted by commas and blanks
+-- the numbers after `.byte`, separated by commas and blanks
 abbrev pub is_break : ℕ → Bool
 is_break b = is_blank b || is_comma b
 
@@ -418,18 +418,18 @@ place_of_label text name = option_map (λ label. label.place) (label_by (labels_
 abbrev pub is_label : List ℕ → List ℕ → Bool
 is_label name line = option_map_or (λ found. bytes_eq found name) (label_of (code_of line)) false
 
--- an answer to a line is that, unless memory ran out
+-- an answer to a line is this one, unless memory ran out
 abbrev pub GivesLine : Result (Vec ℕ Global) LineFault → Result (List ℕ) AsmKind → Type 0
 GivesLine (Ok bytes) reading = reading ≡ Ok bytes.items
 GivesLine (Err (line_fault.Refused refusal)) reading = reading ≡ Err refusal
 GivesLine (Err line_fault.OutOfMemory) reading = Unit {0}
 
--- why a text is refused in which the line with this number has no bytes
+-- why a text is refused if the line with this number has no bytes
 abbrev pub fault_of : ℕ → LineFault → AsmFault
 fault_of number (line_fault.Refused refusal) = Refused number refusal
 fault_of number line_fault.OutOfMemory = OutOfMemory
 
--- an answer to a text is that, unless memory ran out
+-- an answer to a text is this one, unless memory ran out
 abbrev pub Gives : Result (Vec ℕ Global) AsmFault → Result (List ℕ) (ℕ × AsmKind) → Type 0
 Gives (Ok bytes) reading = reading ≡ Ok bytes.items
 Gives (Err (Refused line refusal)) reading = reading ≡ Err (line, refusal)

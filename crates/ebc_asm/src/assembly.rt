@@ -136,7 +136,7 @@ fn bytes_of_text(alloc: Global, labels: &Labels<'_>, text: &[u8]) -> Result<Vec<
 ///
 /// # Errors
 ///
-/// - `Refused` has the first line that is refused, counted from 1, and its first kind from left to
+/// - `Refused` has the first line that is refused, counted from 1, and its first fault from left to
 ///   right: `UnknownWord` if there is no such name, `Operand` for a wrong operand or a form that
 ///   no bytes encode, `Number` for a malformed number, `Label` for one that is missing or
 ///   repeated, and `Range` for a number that does not fit or an odd distance of JMP8.

@@ -27,7 +27,7 @@ pub enum AsmKind {
 /// Why a text is not assembled.
 #[derive(Clone, Copy, Debug, PartialEq, Eq, Error)]
 pub enum AsmFault {
-    /// The first line that is refused, counted from 1, and its first kind from left to right.
+    /// The first line that is refused, counted from 1, and its first fault from left to right.
     #[error("line {line}: {kind}")]
     Refused { line: u32, kind: AsmKind },
     /// There is no memory for the bytes or the labels.

@@ -1,6 +1,6 @@
 //! The assembly language of EBC (UEFI 2.8, chapter 22 'EFI Byte Code Virtual Machine'): `assemble`
-//! makes bytes of a text, and `disassemble` (of `ebc_listing`) a text of bytes. `place_of_label` says
-//! where in the bytes a label of the text is.
+//! turns a text into bytes, and `disassemble` (of `ebc_listing`) turns bytes into a text.
+//! `place_of_label` says where in the bytes a label of the text is.
 //!
 //! `assembly` goes over a text twice: first it gives each label its place, then it makes the bytes
 //! of each line with them. `lines` reads one line, `operands` one operand by its place in the table

@@ -17,7 +17,7 @@ use text_lines::{
     after_byte, after_word, before_byte, first_word, is, is_all_blank, is_blank, only_word,
 };
 
-/// The bytes of an instruction, and how many there are. One that no bytes spell is a wrong operand.
+/// The bytes of an instruction, and how many there are. If no bytes spell it, an operand is wrong.
 fn encoding(instr: &Instr) -> Result<([u8; 18], u8), AsmKind>
     ensures value { MatchResult result (λ found. encoding instr.now ≡ Ok (take found.1 found.0))
         (λ kind. encoding instr.now ≡ Err kind) }
@@ -78,7 +78,7 @@ fn is_break(byte: u8) -> bool
     is_blank(byte) || byte == b','
 }
 
-/// The numbers after `.byte`, which commas and blanks part.
+/// The numbers after `.byte`, separated by commas and blanks.
 fn number_words<'a>(alloc: Global, text: &'a [u8]) -> Result<Vec<&'a [u8]>, AllocError>
     ensures { IfOk result (λ words. map (λ word. word.now) words.items ≡ number_words text.now) }
 {

@@ -529,7 +529,7 @@ fn texts(rt: HostRuntime) {
             ".byte 1 2,3\n.byte 0x0000000004\n",
             &[0x01, 0x02, 0x03, 0x04],
         ),
-        // Labels alone, and names that they may have.
+        // Only labels, and names that they may have.
         ("a:\n _b.C9: ; here\n.byte:\n", &[]),
         ("RET:\nRET\n", &[0x04, 0x00]),
         (
@@ -544,7 +544,7 @@ fn texts(rt: HostRuntime) {
     }
 }
 
-/// Ways to labels, forward and back.
+/// Distances to labels, forward and back.
 #[test]
 fn labels(rt: HostRuntime) {
     let vectors: [(&str, &[u8]); 12] = [
@@ -571,7 +571,7 @@ fn labels(rt: HostRuntime) {
             "CALL32 R0{=a}\n.byte 1, 2\na:\nRET",
             &[0x83, 0x10, 0x02, 0, 0, 0, 0x01, 0x02, 0x04, 0x00],
         ),
-        // An odd distance is none of JMP32's matters, and labels may share a place.
+        // JMP32 may have an odd distance, and labels may share a place.
         (
             "JMP32 R0{=b}\n.byte 1\na:\nb:\nJMP8 =c\nc:",
             &[0x81, 0x10, 0x01, 0, 0, 0, 0x01, 0x02, 0x00],
@@ -595,7 +595,7 @@ fn around(alloc: Global, before: &str, count: u32, after: &str) -> Result<String
     Ok(text)
 }
 
-/// The farthest ways of JMP8, and the next ones.
+/// The greatest distances of JMP8, and the next greater ones.
 #[test]
 fn farthest_ways(rt: HostRuntime) -> Result<(), OutOfMemory> {
     let range = AsmFault::Refused {
@@ -731,7 +731,7 @@ static REFUSED: [(&str, u32, AsmKind); 93] = [
     (".byte 256", 1, AsmKind::Range),
     (".byte 0x100", 1, AsmKind::Range),
     ("JMP8 =a\n.byte 1\na:", 1, AsmKind::Range),
-    // The first line counts, and its first kind from left to right.
+    // The first line counts, and its first fault from left to right.
     ("MOVqw R\u{39}, @R2[1]", 1, AsmKind::Operand),
     ("MOVqw @R1[1], R\u{39}", 1, AsmKind::Number),
     ("MOVqw @R1[0x10000], R9", 1, AsmKind::Range),

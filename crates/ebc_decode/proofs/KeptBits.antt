@@ -7,7 +7,7 @@ use Rattle.ebc_decode.specs.Columns.{Row, row, is_set, m7, m6, always, m6_needs_
 use Rattle.ebc_decode.specs.Spelling.{is_part_size, rows, row_of, form_in_row, form_if, form_in_table}
 use Rattle.ebc_decode.specs.declared.form.Form.{Form}
 
--- each column says the same of the bits that count, and both parts have a size of parts
+-- each column says the same about the bits that count, and both parts have a size of parts
 pub record IsRegular (r : Row) : Type 0 where
   pub legal : (m o : ℕ) → r.legal (bit_and m r.kept_mods) (bit_and o (r.kept_operands m)) ≡ r.legal m o
   pub first : (m o : ℕ) → r.first (bit_and m r.kept_mods) (bit_and o (r.kept_operands m)) ≡ r.first m o

@@ -1,5 +1,5 @@
--- The two definitions of the table say the same: what bytes are by their positions, and which bytes
--- spell an instruction.
+-- The two definitions of the table agree: what bytes decode to by the positions of their parts, and
+-- which bytes spell an instruction.
 use Rattle.std.proofs.Common.{◌≡◌, ◌≤◌, ◌<◌, ◌+◌, ◌*◌, ◌/◌, ◌%◌, ℕ, suc, Bool, true, false, subst, cond, List, [], ◌∷◌, ◌++◌, length, take, drop, get_or, ◌⊎◌, inl, inr, refl, ap, sym, ◌∙◌, length-drop, length-append, append_assoc, arith}
 use Rattle.std.specs.Prelude.{Option, Some, None, Result, Ok, Err, slice_index, nat_lt, IfOk, IsSomeAnd, bit_and}
 use Rattle.std.specs.Int.Bits.{and_self}
@@ -45,7 +45,7 @@ decoding-fields bytes form long listed room =
     ∙ ap (λ f. decoding_by_form f bytes) listed
     ∙ ap (λ b. cond b (Err Short) (Ok (fields form bytes, 2 + form.first + form.second))) enough
 
--- what is spelled so is decoded, whatever follows
+-- bytes that spell an instruction are decoded to it, whatever follows
 pub decoding-only : (bytes spelled rest : List ℕ) (instr : Instr) → Spells spelled instr → bytes ≡ spelled ++ rest → decoding bytes ≡ Ok (instr, length spelled)
 unfolding fields
 decoding-only bytes spelled rest instr s whole =
@@ -117,7 +117,7 @@ spells-fields form a b rest small small_b fits listed room =
       bytes_are = front ∙ ap (λ t. a ∷ b ∷ t) (take-add f s rest ∙ rw (first, later, second) refl) ∙ ap (λ n. n ∷ b ∷ (little_bytes f (little_number f rest) ++ little_bytes s (little_number s (drop (2 + f) (a ∷ b ∷ rest))))) (sym whole);
     }
 
--- what is decoded is spelled so
+-- the bytes that were decoded spell the instruction
 pub decoding-found : (bytes : List ℕ) (found : Instr × ℕ) → ((i : ℕ) → get_or bytes i 0 < 256) → decoding bytes ≡ Ok found → Spells (take found.1 bytes) found.0
 decoding-found [] found fits e = absurd cc
 decoding-found (a ∷ []) found fits e = absurd cc
@@ -259,7 +259,7 @@ ok-same instr other m n r a b =
     let e : ◌≡◌ {A = Instr × ℕ} (instr, m) (other, n) = cc in
     (ap (λ (p : Instr × ℕ). p.0) e, ap (λ (p : Instr × ℕ). p.1) e)
 
--- the front of bytes spells one instruction at most
+-- the front of bytes spells at most one instruction
 pub one-spelling : (one two rest more : List ℕ) (instr other : Instr) → Spells one instr → Spells two other → one ++ rest ≡ two ++ more → (instr ≡ other) × (length one ≡ length two) × (one ≡ two)
 one-spelling one two rest more instr other s t whole =
     let first = decoding-only (one ++ rest) one rest instr s refl in

@@ -114,7 +114,7 @@ form_in_row (Some r) mods operands =
 abbrev pub form_in_table : ℕ → ℕ → ℕ → Option Form
 form_in_table op mods operands = form_in_row (row_of op) mods operands
 
--- the bytes of an instruction whose modifiers and second byte are written so
+-- the bytes of an instruction, with the modifiers and the second byte as they are written
 abbrev pub spelling : Form → Instr → ℕ → ℕ → List ℕ
 spelling form instr mods operands = (instr.op + 64 * mods) ∷ operands ∷ (little_bytes form.first instr.first ++ little_bytes form.second instr.second)
 
@@ -135,7 +135,7 @@ pub record Spells (bytes : List ℕ) (instr : Instr) : Type 0 where
   pub second_fits : instr.second < 256 ^ form.second
   pub bytes_are : bytes ≡ spelling form instr mods operands
 
--- what bytes of a form are, by the positions of their parts
+-- what bytes decode to by a form, with their parts at the positions that the form gives
 abbrev pub decoding_by_form : Option Form → List ℕ → Result (Instr × ℕ) DecodeRefusal
 decoding_by_form None bytes = Err Illegal
 decoding_by_form (Some form) bytes =

@@ -49,7 +49,7 @@ pub fn form_of(op: u8, mods: u8, operands: u8) -> Option<Form>
     }
 }
 
-/// The form of two bytes alone.
+/// The form of an instruction of only two bytes.
 fn bare_form(kept_mods: u8, kept_operands: u8) -> Form
     ensures sizes { HasPartSizes result }
     ensures form { Some result ≡ form_if true 0 0 kept_mods kept_operands }

@@ -16,9 +16,9 @@ use byteorder::{ByteOrder, LittleEndian};
 /// - `Illegal` if the first two bytes begin no instruction.
 /// - `Short` if there are fewer bytes than the instruction has.
 pub fn decode(bytes: &[u8]) -> Result<(Instr, u8), DecodeRefusal>
-    // What is decoded is spelled so.
+    // The bytes that were decoded spell the instruction.
     ensures found { IfOk result (λ found. Spells (take found.1 bytes.now) found.0) }
-    // What is spelled so is decoded, whatever follows.
+    // Bytes that spell an instruction are decoded to it, whatever follows.
     ensures only { (spelled rest : List ℕ) (instr : Instruction) → Spells spelled instr →
         bytes.now ≡ spelled ++ rest → result ≡ Ok (instr, length spelled) }
     // Which refusal it is.

@@ -80,7 +80,7 @@ slot_text Code instr = decimal instr.operands
 
 -- ---- instructions
 
--- an operand, if there is one, after what leads it
+-- an operand, if there is one, after the text that separates it from what comes before
 abbrev pub operand_text : List ℕ → Option Slot → Instr → List ℕ
 operand_text lead None instr = []
 operand_text lead (Some slot) instr = lead ++ slot_text slot instr

@@ -23,7 +23,7 @@ abbrev pub unless_zero : ℕ → ℕ → Result ℕ Cause
 unless_zero divisor value = if nat_eq divisor 0 then Err Divide else Ok value
 
 -- The result of an operation on operand 1, a, and operand 2, b. NOT, NEG and the extensions take
--- operand 2 alone. A signed division goes toward zero, and the least number divided by -1 is itself;
+-- only operand 2. A signed division goes toward zero, and the least number divided by -1 is itself;
 -- a remainder has the sign of operand 1. A shift count is taken modulo the bits of the operation.
 abbrev pub result_of : Operation → Bool → ℕ → ℕ → Result ℕ Cause
 result_of Not wide a b = Ok (2 ^ bits wide - 1 - b)
@@ -49,7 +49,7 @@ result_of Extndb wide a b = Ok (cast_unsigned (width wide) (cast_signed w8 (b % 
 result_of Extndw wide a b = Ok (cast_unsigned (width wide) (cast_signed w16 (b % 2 ^ 16)))
 result_of Extndd wide a b = Ok (cast_unsigned (width wide) (cast_signed w32 (b % 2 ^ 32)))
 
--- whether operand 1, a, and operand 2, b, are so related: equal, at most or at least, signed or not
+-- whether operand 1, a, and operand 2, b, have a relation: equal, at most or at least, signed or not
 abbrev pub holds : Relation → Bool → ℕ → ℕ → Bool
 holds Eq wide a b = nat_eq a b
 holds Lte wide a b = int_le (cast_signed (width wide) a) (cast_signed (width wide) b)

@@ -74,7 +74,8 @@ jump_8 cpu segments instr next =
     then jumps cpu (plus next (pos 2 *ℤ twos_complement 1 instr.operands))
     else Ok (goes_on cpu next Nothing)
 
--- Bit 5 says that it is native: then it asks for a call of the target. Else R0 falls by 16, and next is put there.
+-- Bit 5 says that it is native: then it asks for a call of the target. Otherwise R0 falls by 16, and next is put
+-- there.
 abbrev pub call : Effect
 call cpu segments instr next = do
   target ← target_of cpu segments instr next

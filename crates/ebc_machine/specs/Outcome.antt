@@ -1,4 +1,4 @@
--- How a step ends whose instruction makes a request.
+-- How a step ends if its instruction makes a request.
 use Rattle.ebc_machine.specs.declared.cpu.Request.{Request}
 use Rattle.ebc_machine.specs.declared.cpu.Request.TheVariants.{Nothing, Native as CallNative, MakeThunk as WantThunk}
 use Rattle.ebc_machine.specs.declared.cpu.StepOut.{StepOut}

@@ -1,4 +1,4 @@
--- The registers that an instruction with a write has changed before it, put back.
+-- The registers that an instruction has changed before its write, put back.
 use Rattle.std.specs.Prelude.{ℕ, slice_set}
 use Rattle.ebc_machine.specs.declared.cpu.Cpu.{Cpu}
 

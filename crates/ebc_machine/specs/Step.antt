@@ -54,7 +54,7 @@ plan_by cpu segments (Err NoInstruction) = Err Illegal
 abbrev pub plan_of : Cpu → List Segment → Result Plan Cause
 plan_of cpu segments = plan_by cpu segments (decoding (image_code segments cpu.ip))
 
--- a step: nothing at the exit address, else the instruction at IP
+-- a step: nothing at the exit address, otherwise the instruction at IP
 abbrev pub stepped : Cpu → List Segment → Stepped
 stepped cpu segments =
     if nat_eq cpu.ip EXIT then record { out = Done; cpu = cpu; segments = segments }

@@ -18,13 +18,13 @@ sets_flags opcode =
 abbrev pub IsWritten : SegKind → Type 0
 IsWritten kind = (kind ≡ Image) ⊎ ((kind ≡ Pool) ⊎ (kind ≡ Stack))
 
--- Nothing changes but at most 8 bytes in a row of one segment, which the code may write.
+-- Nothing changes except at most 8 bytes in a row of one segment, which the code may write.
 pub record ChangesOneRange (before after : List Segment) : Type 0 where
   -- the segment, and those before it and after it
   pub front : List Segment
   pub segment : Segment
   pub back : List Segment
-  -- the bytes that it has anew, and their offset in it
+  -- the bytes that are new in it, and their offset in it
   pub offset : ℕ
   pub bytes : List ℕ
   pub is_there : before ≡ front ++ segment ∷ back

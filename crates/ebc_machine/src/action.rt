@@ -18,7 +18,7 @@ pub enum Action {
     Call,
     Return,
     Compare(Relation),
-    /// An operation that takes operand 2 alone.
+    /// An operation that takes only operand 2.
     Unary(Operation),
     /// An operation on both operands.
     Binary(Operation),

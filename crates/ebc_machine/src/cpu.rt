@@ -55,7 +55,7 @@ pub enum Request {
 impl Request {
     ghost use Rattle.ebc_machine.specs.Outcome.{outcome};
 
-    /// How a step ends whose instruction makes the request.
+    /// How a step ends if its instruction makes the request.
     pub fn outcome(self) -> StepOut
         ensures { result ≡ outcome self }
     {

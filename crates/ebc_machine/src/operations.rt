@@ -57,7 +57,7 @@ pub fn run_compare_immediate<M: GuestMem>(
     Ok(with_condition(cpu, next, holds(relation, has_m6(instr), a, b)))
 }
 
-/// Executes an operation that takes operand 2 alone.
+/// Executes an operation that takes only operand 2.
 #[inline(always)]
 pub fn run_unary<M: GuestMem>(
     cpu: &mut Cpu,

@@ -32,7 +32,7 @@ absolute bits = if is_set bits.operands 4 then [] else codes "a"
 abbrev pub native : Bits → List ℕ
 native bits = if is_set bits.operands 5 then codes "EX" else []
 
--- the size of an immediate: a doubleword by m7, else a word
+-- the size of an immediate: a doubleword if m7 is set, and otherwise a word
 abbrev pub short_immediate : Bits → List ℕ
 short_immediate bits = if m7 bits.mods then codes "d" else codes "w"
 
@@ -74,7 +74,7 @@ text_by op mnemonic bits =
     else if nat_eq op 0x37 then mnemonic ++ move_size bits ++ immediate bits
     -- MOVIn, MOVREL
     else if is_from 0x38 0x39 op then mnemonic ++ immediate bits
-    -- the others are the mnemonic alone
+    -- the others are just the mnemonic
     else mnemonic
 
 abbrev pub text_of : Pattern → List ℕ

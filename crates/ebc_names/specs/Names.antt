@@ -23,7 +23,7 @@ suffix_of direct indirect is_indirect = if is_indirect then unwrap_or indirect N
 
 -- ---- the places of operands
 
--- a register alone, which is always direct
+-- just a register, which is always direct
 abbrev pub direct_1 : Option Slot
 direct_1 = Some (Register One (bits 0 0) Word Nothing None)
 

@@ -11,7 +11,7 @@ pub struct NameRow {
     pub pattern: Pattern,
 }
 
-/// A register alone, which is always direct.
+/// Just a register, which is always direct.
 const DIRECT_1: Option<Slot> = Some(Slot::Register {
     side: Side::One,
     shown_by: Bits {

@@ -3,8 +3,8 @@ use anyhow::{Context, Result};
 use std::alloc::Global;
 use std::fmt::Write;
 
-/// The report on the runs of a text, one run a line: the id of each run that differs, and last how
-/// many runs there are and how many of them differ.
+/// The report on the runs of a text, which has one run on each line: the id of each run that
+/// differs, and last how many runs there are and how many of them differ.
 ///
 /// # Errors
 ///

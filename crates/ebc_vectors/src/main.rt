@@ -1,9 +1,9 @@
 //! Runs code over `ebc_machine` and compares what it leaves with what a real firmware left.
 //!
-//! `step.txt`, in the folder in which the program is started, has one run a line: an id, the code,
-//! the registers R1 to R7, FLAGS and the data before it, and the registers R0 to R7, FLAGS and the
-//! data after it, parted by `|`, with all numbers in hexadecimal. The program prints the id of each
-//! run that differs, and last how many there are.
+//! `step.txt`, in the folder in which the program is started, has one run on each line: an id, the
+//! code, the registers R1 to R7, FLAGS and the data before it, and the registers R0 to R7, FLAGS
+//! and the data after it, separated by `|`, with all numbers in hexadecimal. The program prints the
+//! id of each run that differs, and last how many there are.
 #![tactic(auto)]
 
 mod comparison;

@@ -138,7 +138,7 @@ fn digit_of(digit: u8) -> Result<u8>
     }
 }
 
-/// The registers from `first` on, parted by blanks.
+/// The registers from `first` on, separated by blanks.
 fn registers_of(text: &str, first: usize) -> Result<[u64; 8]> {
     let mut r = [0; 8];
     let mut words = text.split(' ');

@@ -1,4 +1,4 @@
--- What the runtime says of a file, and the answer that is made of it.
+-- What the runtime says about a file, and the answer that is made from it.
 use Rattle.std.specs.Prelude.{◌≡◌, ◌≢◌, Vec, ℕ, List, Option, Some, None, Result, Ok, Err}
 use Rattle.std.specs.declared.alloc.Global.{Global}
 use Rattle.std.specs.declared.io.Error.{Error}

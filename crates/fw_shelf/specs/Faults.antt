@@ -22,10 +22,10 @@ IsNotFallen before now = before ≤ now
 pub IsNotFallen-same : (count : ℕ) → IsNotFallen count count
 IsNotFallen-same count = le_refl count
 
--- what has not fallen in two parts has not fallen
+-- a count that has not fallen in the first of two steps, nor in the second, has not fallen
 pub IsNotFallen-again : (a b c : ℕ) → IsNotFallen a b → IsNotFallen b c → IsNotFallen a c
 IsNotFallen-again a b c first second = le_trans first second
 
--- and that is what it says
+-- so the count is not less than before
 pub IsNotFallen-le : (a b : ℕ) → IsNotFallen a b → a ≤ b
 IsNotFallen-le a b h = h

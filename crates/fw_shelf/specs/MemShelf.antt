@@ -36,11 +36,11 @@ pub record IsLater (old new : ShelfInMemory) : Type 0 where
   pub not_fallen : old.faults ≤ new.faults
   pub faults : old.failing_reads ≡ [] → new.faults ≡ old.faults
 
--- a shelf becomes itself
+-- a shelf that did not change counts as later
 pub IsLater-same : (shelf : ShelfInMemory) → IsLater shelf shelf
 IsLater-same shelf = record { files = refl; failing_reads = refl; not_fallen = le_refl shelf.faults; faults = λ _. refl }
 
--- what a shelf becomes in two parts, it becomes
+-- a shelf that is later than a later one is later
 pub IsLater-again : (a b c : ShelfInMemory) → IsLater a b → IsLater b c → IsLater a c
 IsLater-again a b c first second = record {
   files = second.files ∙ first.files;

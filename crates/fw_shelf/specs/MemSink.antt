@@ -72,7 +72,7 @@ IsFull-later a b later full =
     ∙ ap (λ taken. a.room - taken) length_is
     ∙ sub-eq-zero_of_le (le_trans (le_of_sub-eq-zero full) (le-add_right _ _))
 
--- a sink becomes itself
+-- a sink that did not change counts as later
 pub IsLater-same : (sink : SinkInMemory) → IsLater sink sink
 IsLater-same sink = record {
   bytes = ([], sym (append-nil sink.bytes));
@@ -83,7 +83,7 @@ IsLater-same sink = record {
   faults = λ _. inl refl;
 }
 
--- what a sink becomes in two parts, it becomes
+-- a sink that is later than a later one is later
 pub IsLater-again : (a b c : SinkInMemory) → IsLater a b → IsLater b c → IsLater a c
 IsLater-again a b c first second =
     let more = first.bytes.0 in

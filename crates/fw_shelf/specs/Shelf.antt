@@ -11,7 +11,7 @@ use Rattle.fw_shelf.specs.declared.shelf.ShelfFault.TheVariants.{Failed, TooLong
 abbrev pub Files : Type 0
 Files = List (List ℕ × List ℕ)
 
--- whether no two files have one name
+-- whether no two files have the same name
 abbrev pub names_differ : Files → Bool
 names_differ [] = true
 names_differ (file ∷ rest) = not (list_any (λ other. bytes_eq other.0 file.0) rest) && names_differ rest
@@ -39,7 +39,7 @@ Gives (Err TooLong) file = file ≡ too_long
 Gives (Err Failed) file = Unit {0}
 Gives (Err OutOfMemory) file = Unit {0}
 
--- the same for a shelf whose files are known; of another shelf it says nothing
+-- the same for a shelf whose files are known; about another shelf it says nothing
 abbrev pub GivesIfKnown : Option Files → List ℕ → Result (Option (Vec ℕ Global)) ShelfFault → Type 0
 GivesIfKnown None name answer = Unit {0}
 GivesIfKnown (Some files) name answer = Gives answer (file_of files name)

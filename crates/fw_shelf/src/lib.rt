@@ -2,9 +2,9 @@
 //!
 //! A [`Shelf`] gives the bytes of a file under a name, a [`Sink`] takes bytes. A contract may know
 //! the files of a shelf and the bytes that a sink has taken; if it does not, it still knows that a
-//! failure is counted. [`MemShelf`] and [`MemSink`] are in memory, are known whole, and fail at
-//! chosen calls; [`DirShelf`] and [`OutSink`] are the runtime's files and standard output, of which
-//! nothing but the count is known.
+//! failure is counted. [`MemShelf`] and [`MemSink`] are in memory, are known completely, and fail
+//! at chosen calls; [`DirShelf`] and [`OutSink`] are the runtime's files and standard output, of
+//! which only the count is known.
 #![tactic(auto)]
 
 mod dir_shelf;

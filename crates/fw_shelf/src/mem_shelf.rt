@@ -35,7 +35,7 @@ impl Model for MemShelf {
 }
 
 impl MemShelf {
-    /// A shelf with these files, each a name and its bytes, of which no two have one name.
+    /// A shelf with these files, each a name and its bytes. No two have the same name.
     ///
     /// Reads are numbered from 1. A read fails if its number is in `failing_reads`, and for no
     /// other cause. The numbers stop at 2^64 - 1, and so does the count of faults. Takes no memory.

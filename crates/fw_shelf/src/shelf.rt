@@ -46,15 +46,15 @@ pub trait Shelf {
         ensures faults { faults self.old ≤ faults self.new }
         ensures becomes { becomes self.old self.new };
 
-    /// A shelf becomes itself.
+    /// A shelf may become itself.
     ghost becomes_same: { (shelf : Self) → becomes shelf shelf };
 
-    /// What a shelf becomes in two parts, it becomes.
+    /// If a shelf may become a second one, and that a third one, it may become the third one.
     ghost becomes_again: { (a b c : Self) → becomes a b → becomes b c → becomes a c };
 
-    /// The files of what a shelf becomes are the same.
+    /// What a shelf may become has the same files.
     ghost becomes_files: { (a b : Self) → becomes a b → files b ≡ files a };
 
-    /// The count of faults of what a shelf becomes has not fallen.
+    /// What a shelf may become has no lower count of faults.
     ghost becomes_faults: { (a b : Self) → becomes a b → faults a ≤ faults b };
 }

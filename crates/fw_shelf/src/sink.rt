@@ -37,13 +37,13 @@ pub trait Sink {
         ensures faults { faults self.old ≤ faults self.new }
         ensures becomes { becomes self.old self.new };
 
-    /// A sink becomes itself.
+    /// A sink may become itself.
     ghost becomes_same: { (sink : Self) → becomes sink sink };
 
-    /// What a sink becomes in two parts, it becomes.
+    /// If a sink may become a second one, and that a third one, it may become the third one.
     ghost becomes_again: { (a b c : Self) → becomes a b → becomes b c → becomes a c };
 
-    /// The count of faults of what a sink becomes has not fallen.
+    /// What a sink may become has no lower count of faults.
     ghost becomes_faults: { (a b : Self) → becomes a b → faults a ≤ faults b };
 }
 

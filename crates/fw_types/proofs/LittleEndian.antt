@@ -15,7 +15,7 @@ div-low b y h = omega arith
 pow-suc' : (j : ℕ) → 256 ^ suc j ≡ 256 * 256 ^ j
 pow-suc' j = omega (arith, pow-suc 256 j)
 
--- above the lowest byte stands the rest of the number
+-- above the lowest byte is the rest of the number
 byte_at-suc : (j b y : ℕ) → b < 256 → byte_at (suc j) (b + 256 * y) ≡ byte_at j y
 byte_at-suc j b y h =
     let shift : (b + 256 * y) / 256 ^ suc j ≡ y / 256 ^ j = ap (λ (p : ℕ). (b + 256 * y) / p) (pow-suc' j) ∙ sym (div-div-eq-div-mul (b + 256 * y) 256 (256 ^ j)) ∙ ap (λ (q : ℕ). q / 256 ^ j) (div-low b y h) in

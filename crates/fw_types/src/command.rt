@@ -6,7 +6,7 @@ use crate::text::Text;
 pub enum PathArg {
     /// No path: NULL.
     Null,
-    /// A path of the End node alone.
+    /// A path of only the End node.
     End,
     /// A path of one PCI node and the End node (UEFI 2.8, 10.3.2.1). The device is at most 31 and
     /// the function at most 7.

@@ -70,8 +70,8 @@ pub struct Event {
     pub driver: u64,
     /// The handle of the controller; for an entry and an unload, 0.
     pub controller: u64,
-    /// For Connect, 1 if it is recursive; for Disconnect, the child that was given, or 0; for Stop,
-    /// the number of children; else 0.
+    /// For Connect, 1 if it is recursive; for Disconnect, the child that was given, or 0; for Stop, the
+    /// number of children; otherwise 0.
     pub extra: u64,
     /// How it ended.
     pub result: Outcome,

@@ -55,8 +55,8 @@ impl fmt::Display for Guid {
 }
 
 impl Guid {
-    /// The GUID of its form in guest memory: the first field is 4 bytes little-endian, the next
-    /// two are 2 bytes little-endian each, and the last 8 bytes stand in order.
+    /// The GUID of its form in guest memory: the first field is 4 bytes little-endian, the next two
+    /// are 2 bytes little-endian each, and the last 8 bytes are in order.
     pub fn from_guest(b: &[u8; 16]) -> Guid
         ensures { result ≡ swap_fields b.now }
     {
@@ -82,7 +82,7 @@ impl Guid {
         }
     }
 
-    /// The form in guest memory, of which `from_guest` makes the same GUID.
+    /// The form in guest memory, from which `from_guest` makes the same GUID.
     pub fn to_guest(&self) -> [u8; 16]
         ensures form { result ≡ swap_fields self.now }
         ensures sixteen { length self.now ≡ 16 }

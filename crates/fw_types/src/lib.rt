@@ -1,8 +1,8 @@
-//! The plain types of which every layer speaks: handles, statuses, GUIDs, commands and replies.
+//! The plain types that every layer uses: handles, statuses, GUIDs, commands and replies.
 //!
-//! A struct or an enum of this crate is itself the record of which the definitions speak: clauses
-//! see a `Rows` as a list, a `Text` as its bytes, a `Handle` as its number and a `Guid` as its
-//! sixteen bytes, so a command in the program and a command in a definition are compared by `≡`.
+//! A struct or an enum of this crate is itself the record that the definitions use: clauses see a
+//! `Rows` as a list, a `Text` as its bytes, a `Handle` as its number and a `Guid` as its sixteen
+//! bytes, so a command in the program and a command in a definition are compared by `≡`.
 #![tactic(auto)]
 
 mod attr;

@@ -1,6 +1,6 @@
 //! The one state of the firmware, the world: what drivers see of memory, the handle database, the
-//! open records, the images that are loaded and the thunks into them, and beside them the units and
-//! the events of the current command, and the board with its devices.
+//! open records, the images that are loaded and the thunks into them, and also the units and the
+//! events of the current command, and the board with its devices.
 //!
 //! A contract sees a `World` as the record `WorldView` of `world_model`: the state now, and the
 //! soft parts that its open marks keep. Each call that changes it says by its clause `now` which

@@ -1,4 +1,5 @@
-//! Open records in the world: which of them go with an agent, an interface, a handle or an undo.
+//! Open records in the world: which of them are removed with an agent, an interface, a handle or an
+//! undo.
 ghost use Rattle.std.specs.Prelude.{◌≡◌, [], OnOk};
 ghost use Rattle.world_model.specs.Marks.{stacks};
 
@@ -108,8 +109,8 @@ const OPENS_OF_ALL: [Open; 6] = [
     (5, Known::PciIo, (3, 0, 0x01)),
 ];
 
-/// The records of an interface are removed with it. A handle that is no longer live is named by
-/// none, as agent or as controller, and one that has another interface is still named.
+/// The records of an interface are removed with it. A handle that is no longer live is named by no
+/// record, as agent or as controller, and one that has another interface is still named.
 #[test]
 fn records_of_removed_interfaces(rt: HostRuntime) -> Result<(), Fail> {
     let mut world = opened(&rt)?;
@@ -124,7 +125,7 @@ fn records_of_removed_interfaces_in(
     open_all(rt, world, &OPENS_OF_ALL)?;
     let (pci, path) = (Guid::known(Known::PciIo), Guid::known(Known::DevicePath));
     world.uninstall(child, pci)?;
-    // without those of the child's interface, and those that named the child
+    // without the records of the child's interface, and those that named the child
     assert_eq!(rt; world.entries().len(), 2);
     assert_eq!(rt; records_on(world, disk, pci)?, 1);
     world.uninstall(disk, pci)?;
@@ -208,8 +209,8 @@ pub(crate) fn uninstall_pci(world: &mut World, handle: Handle) -> Result<(), DbR
     world.uninstall(handle, Guid::known(Known::PciIo))
 }
 
-/// A handle that goes takes the records that name it, on three others too. An undo puts the handle back
-/// with its interface, and each record at its place.
+/// When a handle is removed, so are the records that name it, on three other handles too. An undo
+/// puts the handle back with its interface, and each record at its place.
 #[test]
 fn undone_sweep(rt: HostRuntime) -> Result<(), Fail> {
     let mut world = opened(&rt)?;
@@ -234,7 +235,7 @@ fn undone_sweep_in(rt: &impl Abort, world: &mut World) -> Result<(), Fail>
     Ok(())
 }
 
-/// Installs PCI I/O on four new handles, of which the second and the last are the answer.
+/// Installs PCI I/O on four new handles, and answers the second and the last of them.
 fn install_four(world: &mut World) -> Result<[Handle; 2], DbRefusal>
     ensures { OnOk result (world.new.marks ≡ world.old.marks) }
 {

@@ -27,7 +27,8 @@ pub(crate) fn opened(rt: &impl AllocGlobal) -> Result<World, OutOfMemory>
     World::new(rt.alloc(), Board::empty(rt.alloc()), Vec::new(rt.alloc()))
 }
 
-/// What some fields of a block have at a place in it: the bytes of the last of them that has it, or 0.
+/// The byte that some fields of a block give at a place in it: that of the last field that covers the place,
+/// or 0.
 fn byte_in(fields: &[(usize, &[u8])], place: usize) -> u8 {
     let mut found = 0;
     for (at, bytes) in fields {
@@ -38,7 +39,7 @@ fn byte_in(fields: &[(usize, &[u8])], place: usize) -> u8 {
     found
 }
 
-/// Memory has just so many bytes from an address on, which are 0 except for these fields.
+/// Memory has exactly this many bytes from an address on, which are 0 except for these fields.
 fn shows(rt: &impl Abort, world: &World, base: u64, size: usize, fields: &[(usize, &[u8])]) {
     for (at, place) in (base..u64::MAX).zip(0..size) {
         let byte = byte_in(fields, place);
@@ -135,8 +136,8 @@ fn runtime_image_block_in(rt: &(impl AllocGlobal + Abort), world: &mut World) ->
     Ok(())
 }
 
-/// The addresses of two images and of a thunk, and what a dropped image takes along. Neither its
-/// address nor its handle nor the thunk's number is used again.
+/// The addresses of two images and of a thunk, and what is removed with a dropped image. Neither its address
+/// nor its handle nor the thunk's number is used again.
 #[test]
 fn images_and_thunks(rt: HostRuntime) -> Result<(), Fail> {
     let mut world = opened(&rt)?;
@@ -197,8 +198,7 @@ fn block_addresses_in(rt: &(impl AllocGlobal + Abort), world: &mut World) -> Res
     Ok(())
 }
 
-/// The most bytes of all blocks, of which a loaded image block is one. What is refused changes
-/// nothing.
+/// The most bytes of all blocks, including loaded image blocks. What is refused changes nothing.
 #[test]
 fn most_bytes_of_blocks(rt: HostRuntime) -> Result<(), Fail> {
     let mut world = opened(&rt)?;
@@ -291,7 +291,7 @@ fn shows_frame(rt: &impl Abort, world: &World) {
     assert_eq!(rt; world.read(0x82_0000, 1), None);
 }
 
-/// A list of children beside a stack. They are removed together.
+/// A list of children next to a stack. They are removed together.
 #[test]
 fn list_of_children(rt: HostRuntime) -> Result<(), Fail> {
     let mut world = World::new(rt.alloc(), Board::empty(rt.alloc()), Vec::new(rt.alloc()))?;

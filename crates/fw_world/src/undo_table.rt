@@ -1,4 +1,4 @@
-//! A table of the calls that an undo takes back, and what each leaves: a world that shows what it showed.
+//! A table of the calls that an undo takes back, and what each leaves: a world that shows the same as before.
 ghost use Rattle.std.specs.Prelude.{◌≡◌, ◌<◌, [], ◌∷◌, false, OnOk};
 ghost use Rattle.fw_types.specs.declared.limits.TheConstants.{MOST_MARKS as most_marks};
 ghost use Rattle.world_model.specs.Marks.{depth, stacks};
@@ -56,7 +56,7 @@ const PLACES: [(u64, u64); 6] = [
 const THUNKS: [u64; 2] = [0x40_0000, 0x40_0010];
 
 /// Makes function 0 that of a handle with PCI I/O of the firmware that is no child yet, and says whether it
-/// did.
+/// did so.
 fn note(world: &mut World, handle: Handle) -> Result<bool, Fail>
     ensures marks { OnOk result (world.new.marks ≡ world.old.marks) }
     ensures stacks { OnOk result (stacks world.new.now.soft ≡ stacks world.old.now.soft) }
@@ -286,7 +286,7 @@ fn make_and_undo(
     Ok(())
 }
 
-/// Each call of the table, made and taken back, leaves a world that shows what it showed.
+/// Each call of the table, made and taken back, leaves a world that shows the same as before.
 #[test]
 fn each_call_is_undone(rt: HostRuntime) -> Result<(), Fail> {
     let mut world = on_two_roots(&rt)?;
@@ -390,7 +390,7 @@ fn write_on_stack(world: &mut World, block: u64) -> Result<Option<u64>, Fail>
     Ok(written)
 }
 
-/// A write to a stack that was popped since is passed over, and the write beside it is taken back.
+/// A write to a stack that has been popped since is passed over, and the other write is taken back.
 #[test]
 fn popped_stack(rt: HostRuntime) -> Result<(), Fail> {
     let mut world = on_two_roots(&rt)?;

@@ -121,7 +121,8 @@ impl Absent for World {
     }
 }
 
-/// A world has no call that copies it, and is not Clone: else these would not be the calls of `Absent`.
+/// A world has no call that copies it, and is not Clone: otherwise these would not be the calls of
+/// `Absent`.
 #[test]
 fn no_copies(rt: HostRuntime) -> Result<(), Fail> {
     let world = opened(&rt)?;
@@ -129,7 +130,7 @@ fn no_copies(rt: HostRuntime) -> Result<(), Fail> {
     Ok(())
 }
 
-/// A log takes as much for each change as the largest kind has.
+/// A log uses as much memory for each change as the largest kind needs.
 #[test]
 fn changes_are_small(rt: HostRuntime) {
     assert_eq!(rt; std::mem::size_of::<Change>(), 56);

@@ -47,9 +47,9 @@ use world_model::{LoadedImage, WorldFault};
 /// The handle of the first root bridge.
 const FIRST_ROOT: u64 = 3;
 
-/// The one state of the firmware: a soft part, which a mark keeps and a rollback puts back, and
-/// beside it the units that may still be spent, the events of the command, the board with its
-/// devices and the option ROMs of its functions, which no rollback touches.
+/// The one state of the firmware: a soft part, which a mark keeps and a rollback puts back, and also
+/// the units that may still be spent, the events of the command, the board with its devices and the
+/// option ROMs of its functions, which no rollback touches.
 ///
 /// After `OutOfMemory` nothing is promised of a world except that it can be dropped.
 #[derive(Drop)]
@@ -123,13 +123,13 @@ impl World {
     }
 
     /// What holds of every world. No two segments meet, each lies in the region of its kind, the
-    /// firmware's tables are there with their bytes, and a list of children is there only beside a
-    /// stack of its level. Each image has its segment, its loaded image block and its interface.
-    /// The database is sound and has the interfaces of the firmware and of the bus driver. Each
-    /// thunk enters an image, and no two have one number. The open records are sound and name
+    /// firmware's tables are there with their bytes, and a list of children is there only if its
+    /// level has a stack. Each image has its segment, its loaded image block and its interface. The
+    /// database is sound and has the interfaces of the firmware and of the bus driver. Each thunk
+    /// enters an image, and no two have the same number. The open records are sound and name
     /// interfaces and handles that are there. Each child of the bus has PCI I/O of the firmware and
-    /// a function of the board, and no two are one handle. The next addresses and the next number
-    /// are within their ranges.
+    /// a function of the board, and no two are the same handle. The next addresses and the next
+    /// number are within their ranges.
     pub fn is_kept(&self)
         ensures { IsKept self.now.now.soft }
     {
@@ -150,7 +150,7 @@ impl World {
     ///
     /// # Errors
     ///
-    /// `NoFunction` if there is no such function; else `PastEnd` if a byte lies past the 256 of
+    /// `NoFunction` if there is no such function; otherwise `PastEnd` if a byte lies past the 256 of
     /// configuration space. After them the world is as before.
     pub fn write_config(&mut self, f: u32, at: u64, n: u8, value: u64) -> Result<(), DevRefusal>
         requires { is_access n ≡ true }
@@ -240,8 +240,8 @@ impl World {
     }
 
     /// Makes `f` the function of a handle with PCI I/O of the firmware, until that interface is
-    /// removed. It is no child of the bus yet. A number that is no function's of the board changes
-    /// nothing.
+    /// removed. The handle is no child of the bus yet. A number that is not that of a function of
+    /// the board changes nothing.
     ///
     /// # Errors
     ///
@@ -307,8 +307,8 @@ impl World {
     // ---- blocks of the pool and of the firmware
 
     /// Makes a block of these bytes at the next address, and answers its address. `kind` is `Pool`
-    /// or `Firmware`. The block takes its size rounded up to 16 bytes of the addresses, and at
-    /// least 16.
+    /// or `Firmware`. The block takes up as many addresses as it has bytes, rounded up to a multiple
+    /// of 16, and at least 16.
     ///
     /// # Errors
     ///
@@ -448,9 +448,9 @@ impl World {
     }
 
     /// Uninstalls a handle's interface of a protocol with its open records. A handle without
-    /// interfaces is no longer live, and the records that name it go (UEFI 2.8, 7.3:
-    /// UninstallProtocolInterface). Neither the loaded image protocol of the firmware or of an
-    /// image that is loaded is uninstalled so, nor the bus driver's binding.
+    /// interfaces is no longer live, and the records that name it are removed (UEFI 2.8, 7.3:
+    /// UninstallProtocolInterface). This uninstalls neither the loaded image protocol of the
+    /// firmware or of an image that is loaded, nor the bus driver's binding.
     ///
     /// # Errors
     ///
@@ -472,8 +472,8 @@ impl World {
     /// Enters an open of an interface (UEFI 2.8, 7.3: OpenProtocol): a record after those of the
     /// interface, or one more in the count of the record with the same agent, controller and
     /// attribute. The interface is there (`Db::interface`), the agent is live, and so is the
-    /// controller, or it is 0 if the open is for none. `Records::judged` says `Add` or `Count` of
-    /// it.
+    /// controller, or it is 0 if the open is for none. `Records::judged` answers `Add` or `Count`
+    /// for it.
     ///
     /// # Errors
     ///
@@ -620,16 +620,16 @@ impl World {
     }
 
     /// Removes an image that `add_image` added, with all that belongs to it, in one sweep (UEFI 2.8,
-    /// 7.4: UnloadImage). These go:
+    /// 7.4: UnloadImage). These are removed:
     ///
     /// - its bytes, its loaded image block, and the thunks that enter its bytes;
     /// - its loaded image interface, and all interfaces that it owns, and so the handles whose last
-    ///   interface goes;
+    ///   interface is removed;
     /// - the open records of its agents, which are its handle and the handles whose driver binding
-    ///   it owns, and those of interfaces and with handles that go.
+    ///   it owns, and those of interfaces and with handles that are removed.
     ///
-    /// The blocks that its driver allocated stay. If the handle is no such image's, nothing
-    /// changes. No mark is open, so that no rollback has to put the image back. Takes no memory.
+    /// The blocks that its driver allocated stay. If the handle is no such image's, nothing changes.
+    /// No mark is open, so no rollback has to put the image back. Takes no memory.
     ///
     /// # Errors
     ///
@@ -722,7 +722,7 @@ impl World {
 
     /// Maps the stack of a level, from 1 to 32, with a frame of these arguments at its end, and the
     /// list of child handles if there are any, at most 16,384. Answers the registers as the call
-    /// begins: R0 is at the frame, and all else is 0. The level has no stack yet.
+    /// begins: R0 is at the frame, and everything else is 0. The level has no stack yet.
     ///
     /// # Errors
     ///
@@ -820,7 +820,7 @@ impl World {
         ensures aside { result ≡ units_aside most self.old.now.hard }
         ensures now { self.new.now ≡ on_hard (units_capped most) self.old.now }
         ensures marks { self.new.marks ≡ self.old.marks }
-        // So what was set aside fits beside what will be left of the rest.
+        // So what was set aside can be added to what will be left of the rest.
         ensures whole { self.new.now.hard.units + result ≡ self.old.now.hard.units }
         ensures small { self.old.now.hard.units < 2 ^ 64 }
     {
@@ -830,8 +830,9 @@ impl World {
         Cap { aside }
     }
 
-    /// Gives back the units that a cap has set aside, which fit beside those that are left: so it
-    /// is for the newest cap of a command, since units are only spent until it is given back.
+    /// Gives back the units that a cap has set aside, which can be added to those that are left.
+    /// This holds for the newest cap of a command, since units are only spent until it is given
+    /// back.
     pub fn uncap(&mut self, c: Cap)
         requires { self.old.now.hard.units + c < 2 ^ 64 }
         ensures now { self.new.now ≡ on_hard (units_returned c) self.old.now }
@@ -842,8 +843,9 @@ impl World {
 
     // ---- events
 
-    /// Gives a command its units, and forgets the events of the one before. Between commands no mark
-    /// is open, so what is still kept of open records that went is given up. Takes no memory.
+    /// Gives a command its units, and forgets the events of the command before. Between commands no
+    /// mark is open, so what is still kept of open records that were removed is given up. Takes no
+    /// memory.
     pub fn begin_command(&mut self, units: u32)
         ensures now { self.new.now ≡ on_hard (command_begun units) self.old.now }
         ensures marks { self.new.marks ≡ self.old.marks }
@@ -886,7 +888,7 @@ impl World {
         Ok(serial)
     }
 
-    /// Ends the event of a serial number, which has begun in this command.
+    /// Ends the event with a serial number, which has begun in this command.
     pub fn end_event(&mut self, serial: u64, outcome: Outcome)
         requires from { 0 < serial }
         requires to { serial ≤ length self.old.now.hard.events }
@@ -898,7 +900,7 @@ impl World {
         event.result = outcome;
     }
 
-    /// The events of the command, which the world then has no more. Takes no memory.
+    /// The events of the command, which are taken out of the world. Takes no memory.
     pub fn take_events(&mut self) -> Vec<Event>
         ensures events { result.items ≡ self.old.now.hard.events }
         ensures now { self.new.now ≡ on_hard events_taken self.old.now }

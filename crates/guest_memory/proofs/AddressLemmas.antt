@@ -33,7 +33,7 @@ first_or_later first segments base later = by (nat_eq first.base base)
 pub first_begins : (first : Segment) (segments : List Segment) → is_ok (beginning_at (first ∷ segments) first.base) ≡ true
 first_begins first segments = rw (same_base first.base first.base refl) refl
 
--- one that begins at an address lies where the segments do
+-- one that begins at an address lies at or above the address from which the segments lie
 pub begins_from : (a : ℕ) (segments : List Segment) (base : ℕ) → lie_from a segments ≡ true → is_ok (beginning_at segments base) ≡ true → a ≤ base
 begins_from a [] base lie there = absurd cc
 begins_from a (first ∷ segments) base lie there =
@@ -172,7 +172,7 @@ meets_where segments new last at lie end is = meets_all 0 segments new last at l
 
 -- ---- the segment that begins at an address
 
--- none begins where one is mapped
+-- none begins at an address at which one is mapped
 pub none_where_mapped : (a : ℕ) (segments : List Segment) (new : Segment) → lie_from a (mapped new segments) ≡ true → is_ok (beginning_at segments new.base) ≡ false
 none_where_mapped a [] new lie = refl
 none_where_mapped a (first ∷ segments) new lie = by (nat_lt first.base new.base) refl lie (none_where_mapped (end_of first) segments new)

@@ -1,4 +1,5 @@
--- Segments under keys: what the map from addresses to keys says of them, and what a change under one key makes of them.
+-- Segments under keys: what the map from addresses to keys says about them, and what a change under one key makes of
+-- them.
 use Rattle.std.proofs.Common.{◌≡◌, ◌≢◌, ◌<◌, ◌≤◌, ℕ, Bool, true, false, nat_lt, nat_eq, ◌&&◌, cond, List, [], ◌∷◌, length, Option, Some, None, Result, Ok, Err, is_ok, OnOk, OnErr, if◌then◌else◌, refl, ap, subst, sym, ◌∙◌, inl, inr, arith}
 use Rattle.std.specs.declared.cmp.Ordering.{Ordering}
 use Rattle.std.specs.declared.cmp.Ordering.TheVariants.{Less, Equal, Greater}
@@ -128,7 +129,7 @@ module _ (slots : Slab Segment) (bases : tree.BTreeMap ℕ ℕ) (filed : IsFiled
       by None = refl
       by (Some segment) = refl
 
-  -- a segment begins where the map has a name
+  -- a segment begins at an address for which the map has a name
   named_where : (base : ℕ) → is_ok (beginning_at (all_in slots bases.entries) base) ≡ true → is_some (tree.get nat_cmp bases base) ≡ true
   named_where base there = by (tree.get nat_cmp bases base) (ap is_ok (sym (found base)) ∙ there)
     where
@@ -380,7 +381,7 @@ module _ (slots after : Slab Segment) (bases names : tree.BTreeMap ℕ ℕ) (bas
       (λ k apart. ap (is_number k) named ∙ other_number k key apart) (λ other apart. ap (is_number other) stood ∙ other_number other base apart) in
       record { named = names_now; stand = stand_from after names ordered names_now; apart = ap (lie_from 0) removed ∙ lie_from-unmapped 0 (all_in slots bases.entries) base filed.apart }
 
--- entries stand where each key's segment begins as before
+-- if the segment under each key begins at the same address as before, entries fit as before
 stand_same : (slots after : Slab Segment) → ((key : ℕ) → base_under after key ≡ base_under slots key) → (es : List (ℕ × ℕ)) → all_stand after es ≡ all_stand slots es
 stand_same slots after same [] = refl
 stand_same slots after same (e ∷ es) = ap (λ of. is_number e.0 of && all_stand after es) (same e.1) ∙ ap (λ b. is_number e.0 (base_under slots e.1) && b) (stand_same slots after same es)

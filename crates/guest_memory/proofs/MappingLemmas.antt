@@ -56,7 +56,7 @@ begins_above-more a first segments base segment true low is rest =
     omega (arith, low, ap (λ (s : Segment). s.base) same)
 begins_above-more a first segments base segment false low is rest = omega (arith, low, rest is)
 
--- one that begins at an address lies where the segments do
+-- one that begins at an address lies at or above the address from which the segments lie
 begins_above : (a : ℕ) (segments : List Segment) (base : ℕ) (segment : Segment) → lie_from a segments ≡ true → beginning_at segments base ≡ Ok segment → a ≤ segment.base
 begins_above a [] base segment lie is = absurd cc
 begins_above a (first ∷ segments) base segment lie is =

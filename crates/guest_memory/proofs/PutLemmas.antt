@@ -1,4 +1,4 @@
--- Where bytes go that are put at an address, and what they leave as it was.
+-- What bytes that are put at an address change, and what they leave as it was.
 use Rattle.std.proofs.Common.{◌≡◌, ◌-◌, ◌≤◌, ℕ, ◌+◌, max, Bool, true, false, not, ◌&&◌, ◌||◌, cond, List, [], ◌∷◌, ◌++◌, length-append, take, drop, length-take, length-drop, map, filter, length, replicate, refl, ap, sym, ◌∙◌, arith}
 use Rattle.std.specs.List.{list_all, list_any}
 use Rattle.std.specs.Prelude.{Some}
@@ -139,7 +139,7 @@ fixed_there [] at bytes can = refl
 fixed_there (s ∷ rest) at bytes can =
     fixed-put_bytes-more s rest at bytes (has_bytes s at (length bytes)) (is_writable s.kind) refl refl can (λ later. fixed_there rest at bytes later)
 
--- they are as before, where the bytes can be written
+-- they are as before, if the bytes can be written
 pub fixed-put_bytes : (segments : List Segment) (at : ℕ) (bytes : List ℕ) → is_writable_range segments at (length bytes) ≡ true → filter is_fixed (put_bytes segments at bytes) ≡ filter is_fixed segments
 fixed-put_bytes segments at [] can = ap (filter is_fixed) (put_bytes-none segments at)
 fixed-put_bytes segments at (byte ∷ bytes) can = fixed_there segments at (byte ∷ bytes) (holder_writable segments at byte bytes can)

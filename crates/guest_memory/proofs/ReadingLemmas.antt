@@ -1,4 +1,5 @@
--- What is read after bytes are put: these bytes in their own range, and the bytes of before in each other.
+-- What is read after bytes are put: these bytes in their own range, and the earlier bytes in each other
+-- range.
 use Rattle.std.proofs.Common.{◌≡◌, ◌≤◌, ℕ, ◌+◌, ◌-◌, ◌%◌, ◌^◌, ⊎_elim, Bool, true, false, cond, List, [], ◌∷◌, ◌++◌, length, length-append, map, take, drop, length-take, Option, Some, None, unwrap_or, refl, ap, subst, sym, ◌∙◌, arith}
 use Rattle.std.specs.Option.{is_some}
 use Rattle.std.specs.Prelude.{option_map}
@@ -63,7 +64,7 @@ bytes_at-apart segment at bytes other m has reads apart =
     (λ h. before-replaced segment.bytes i bytes j m inside (before h))
     apart
 
--- a number is that of its bytes alone
+-- a number depends only on its bytes
 number_at-bytes : (segment : Segment) (at n : ℕ) → number_at segment at n ≡ little_number n (bytes_at segment at n)
 number_at-bytes segment at n = sym (little_from-take 0 n n (drop (at - segment.base) segment.bytes) (omega arith))
 
@@ -84,7 +85,8 @@ holder-own [] at bytes = refl
 holder-own (segment ∷ segments) at bytes =
     holder-own-more segment segments at bytes (has_bytes segment at (length bytes)) refl (holder-own segments at bytes)
 
--- what a segment gives that bytes in the range leave is as before, in the one that has another range
+-- if bytes put in the range leave what a segment gives, it is as before for the segment that has
+-- another range
 holder-apart-more : {B : Type 0} (f : Segment → B) (segment : Segment) (segments : List Segment) (at : ℕ) (bytes : List ℕ) (other m : ℕ) (has reads : Bool) → has_bytes segment at (length bytes) ≡ has → has_bytes segment other m ≡ reads
     → (has_bytes segment at (length bytes) ≡ true → has_bytes segment other m ≡ true → f (with_bytes segment at bytes) ≡ f segment)
     → option_map f (holder (put_bytes segments at bytes) other m) ≡ option_map f (holder segments other m)

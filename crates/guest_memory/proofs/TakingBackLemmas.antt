@@ -1,4 +1,4 @@
--- The bytes of before take back what was put in their place.
+-- The earlier bytes take back what was put in their place.
 use Rattle.std.proofs.Common.{◌≡◌, ◌≤◌, ℕ, ◌+◌, ◌-◌, Bool, true, false, List, [], ◌∷◌, ◌++◌, length, length-append, take, drop, length-take, length-drop, refl, ap, sym, ◌∙◌, arith}
 use Rattle.std.specs.Option.{is_some}
 use Rattle.std.proofs.lemmas.List.{append_assoc, take-append-drop, take-append-le, drop-take, take-take}
@@ -28,7 +28,7 @@ drop-replaced : (bytes : List ℕ) (i n : ℕ) (others : List ℕ) → i ≤ len
 drop-replaced bytes i n others inside size =
     drop-append-drop (i + length others) bytes (take i bytes ++ others) (i + n) (omega (arith, size)) (omega (arith, length-append (take i bytes) others, length-take i bytes))
 
--- the bytes of before, in their place again
+-- the earlier bytes, in their place again
 replaced-back : (bytes : List ℕ) (i n : ℕ) (others before : List ℕ) → i + n ≤ length bytes → length others ≡ n → before ≡ take n (drop i bytes) → replaced (replaced bytes i others) i before ≡ bytes
 replaced-back bytes i n others before inside size is =
     let new = replaced bytes i others in

@@ -216,7 +216,7 @@ in_order-mapped segments totals base bytes kind is lie = record {
   sums = ap (λ t. with_segment t kind (length bytes)) is.sums ∙ sym (totals_of-mapped segments base bytes kind);
 }
 
--- so does one that was taken out, put back where the segments then lie in order
+-- so does one that was taken out, put back so that the segments lie in order afterwards
 pub put_back_size : (segments : List Segment) (new : Segment) → lie_from 0 (mapped new segments) ≡ true → length new.bytes ≤ 2 ^ 63
 put_back_size segments new lie =
     let all : total_of (mapped new segments) new.kind ≤ 2 ^ 63 = total_bound (mapped new segments) new.kind lie in

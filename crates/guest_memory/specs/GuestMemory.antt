@@ -51,7 +51,7 @@ code_in (Some segment) at = code_at segment at
 abbrev pub image_code : List Segment → ℕ → List ℕ
 image_code segments at = code_in (image_with segments at) at
 
--- A call gives this answer, unless memory ran out. A write gives neither Overlap nor Full.
+-- A call gives this answer, unless memory runs out. A write gives neither Overlap nor Full.
 abbrev pub Gives : Result Unit MemRefusal → Result Unit MemRefusal → Type 0
 Gives (Err OutOfMemory) answer = Unit {0}
 Gives (Ok done) answer = answer ≡ Ok done
@@ -85,7 +85,8 @@ bytes_in (Some segment) at n = bytes_at segment at n
 abbrev pub bytes_of : List Segment → ℕ → ℕ → List ℕ
 bytes_of segments at n = bytes_in (holder segments at n) at n
 
--- the segments with these bytes from an address on, in the one that has them all, and nothing else changed
+-- the segments with these bytes put from an address on, in the segment that has all of them, and nothing
+-- else changed
 abbrev pub put_bytes : List Segment → ℕ → List ℕ → List Segment
 put_bytes [] at bytes = []
 put_bytes (segment ∷ segments) at bytes =
@@ -124,7 +125,7 @@ total_of segments kind =
 abbrev pub block_count : List Segment → ℕ
 block_count segments = count_by (λ segment. is_block segment.kind) segments
 
--- whether so many more bytes are too many for all blocks together, or one more block is
+-- whether so many more bytes, or one more block, are too many for all blocks together
 abbrev pub is_pool_full : List Segment → ℕ → Bool
 is_pool_full segments size =
     nat_lt MOST_BYTES (total_of segments Pool + total_of segments Firmware + size) || nat_le MOST_BLOCKS (block_count segments)

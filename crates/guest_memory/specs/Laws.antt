@@ -20,12 +20,13 @@ OneHasAByte = (segments : List Segment) (at : ℕ) → lie_from 0 segments ≡ t
 
 -- ---- reading after a write
 
--- A read gives the low bytes of the number that was written to the same range, if a segment has the range.
+-- A read gives the low bytes of the number that was written to the same range, if one segment has the
+-- range.
 abbrev pub NumberReadsBack : Type 0
 NumberReadsBack = (segments : List Segment) (at n value : ℕ) → is_some (holder segments at n) ≡ true
     → number_of (written segments at n value) at n ≡ Some (value % 256 ^ n)
 
--- So are bytes read that were put in a range, if a segment has it.
+-- In the same way, bytes that were put in a range are read back, if one segment has it.
 abbrev pub BytesReadBack : Type 0
 BytesReadBack = (segments : List Segment) (at : ℕ) (bytes : List ℕ) → is_some (holder segments at (length bytes)) ≡ true
     → bytes_of (put_bytes segments at bytes) at (length bytes) ≡ bytes
@@ -34,7 +35,7 @@ BytesReadBack = (segments : List Segment) (at : ℕ) (bytes : List ℕ) → is_s
 abbrev pub AreApart : ℕ → ℕ → ℕ → ℕ → Type 0
 AreApart at n other m = (at + n ≤ other) ⊎ (other + m ≤ at)
 
--- A write changes its own bytes alone: a number in a range apart from them is as before.
+-- A write changes only its own bytes: a number in a range apart from them is as before.
 abbrev pub OtherNumbersStay : Type 0
 OtherNumbersStay = (segments : List Segment) (at n value other m : ℕ) → AreApart at n other m
     → number_of (written segments at n value) other m ≡ number_of segments other m
@@ -48,7 +49,7 @@ OtherBytesStay = (segments : List Segment) (at : ℕ) (bytes : List ℕ) (other 
 abbrev pub outline_of : Segment → ℕ × ℕ × SegKind
 outline_of segment = (segment.base, length segment.bytes, segment.kind)
 
--- Nor does a write move a segment, or change its size or its kind.
+-- A write moves no segment either, and changes the size and the kind of none.
 abbrev pub SegmentsStay : Type 0
 SegmentsStay = (segments : List Segment) (at n value : ℕ) → map outline_of (written segments at n value) ≡ map outline_of segments
 
@@ -64,14 +65,14 @@ UnmappedTakesBackMapped = (segments : List Segment) (new : Segment) → unmapped
 abbrev pub MappedBeginsThere : Type 0
 MappedBeginsThere = (segments : List Segment) (new : Segment) → beginning_at (mapped new segments) new.base ≡ Ok new
 
--- Mapping what was unmapped gives the segments of before, if they lie in order.
+-- Mapping what was unmapped gives the earlier segments, if they lie in order.
 abbrev pub MappedTakesBackUnmapped : Type 0
 MappedTakesBackUnmapped = (segments : List Segment) (base : ℕ) (segment : Segment) → lie_from 0 segments ≡ true → beginning_at segments base ≡ Ok segment
     → mapped segment (unmapped segments base) ≡ segments
 
--- ---- bytes of before
+-- ---- earlier bytes
 
--- Bytes that were put are taken back by those that were there before, if a segment has the range.
+-- What was put is taken back by putting the bytes that were there before, if one segment has the range.
 abbrev pub PutTakesBackPut : Type 0
 PutTakesBackPut = (segments : List Segment) (at : ℕ) (bytes : List ℕ) → is_some (holder segments at (length bytes)) ≡ true
     → put_bytes (put_bytes segments at bytes) at (bytes_of segments at (length bytes)) ≡ segments

@@ -60,7 +60,7 @@ pub record IsLastUpTo (at : ℕ) (segments : List Segment) (last : Segment) : Ty
   pub low : last.base ≤ at
   pub greatest : (base : ℕ) → base ≤ at → is_ok (beginning_at segments base) ≡ true → base ≤ last.base
 
--- a map's keys, likewise
+-- the same for a map's keys
 abbrev pub NoKeyUpTo : ℕ → tree.BTreeMap ℕ ℕ → Type 0
 NoKeyUpTo at bases = (base : ℕ) → base ≤ at → tree.get nat_cmp bases base ≡ None
 

@@ -1,4 +1,5 @@
--- What the code keeps of segments beside them: how many bytes those of each kind have, and how many blocks there are.
+-- What the code keeps about segments, next to them: how many bytes those of each kind have, and how many blocks there
+-- are.
 use Rattle.std.specs.Prelude.{◌≡◌, ℕ, ◌+◌, ◌-◌, Bool, true, false, ◌||◌, nat_le, nat_lt, List}
 use Rattle.fw_types.specs.declared.limits.TheConstants.{MOST_BYTES, MOST_BLOCKS}
 use Rattle.guest_memory.specs.GuestMemory.{lie_from, total_of, block_count}

@@ -58,9 +58,9 @@ pub trait GuestMem {
     ///
     /// # Errors
     ///
-    /// `NoSegment` if no one segment has all the bytes; else `ReadOnly` if a driver may not write
-    /// that segment. `OutOfMemory` comes only from a memory whose writes may run out of it. After an
-    /// error the segments are as before.
+    /// `NoSegment` if no one segment has all the bytes; otherwise `ReadOnly` if a driver may not
+    /// write that segment. `OutOfMemory` comes only from a memory whose writes may run out of it.
+    /// After an error the segments are as before.
     fn write(&mut self, at: u64, n: u8, value: u64) -> Result<(), MemRefusal>
         requires { IsTrue (is_access n) }
         ensures answer { Gives result (write_answer (segments self.old) at n) }

@@ -33,7 +33,7 @@ pub fn mapping_is_taken_back()
     ensures unmapped { MappedTakesBackUnmapped }
 {}
 
-/// The bytes of before, put where others were put or a number was written, take that back.
+/// The earlier bytes, put where others were put or a number was written, take that back.
 pub fn writing_is_taken_back()
     ensures put { PutTakesBackPut }
     ensures written { PutTakesBackWritten }

@@ -49,10 +49,10 @@ impl Memory {
     /// # Errors
     ///
     /// `Overlap` if the segment would meet another or pass 2^63; a segment of no bytes counts as one
-    /// byte. Else `Full` if it is an image and all images would have more than 67,108,864 bytes, or
-    /// if it is a block of the pool or of the firmware and all blocks would have more than 67,108,864
-    /// bytes or be more than 65,536. Else `OutOfMemory` if memory runs out. After an error the memory
-    /// is as before.
+    /// byte. Otherwise `Full` if it is an image and all images would have more than 67,108,864 bytes,
+    /// or if it is a block of the pool or of the firmware and all blocks would have more than
+    /// 67,108,864 bytes or be more than 65,536. Otherwise `OutOfMemory` if memory runs out. After an
+    /// error the memory is as before.
     pub fn map(&mut self, base: u64, bytes: Vec<u8>, kind: SegKind) -> Result<(), MemRefusal>
         ensures answer { Gives result (map_answer self.old (record { base = base; bytes = bytes.items; kind = kind })) }
         ensures ok { OnOk result (self.new ≡ mapped (record { base = base; bytes = bytes.items; kind = kind }) self.old) }
@@ -77,8 +77,9 @@ impl Memory {
         Ok(())
     }
 
-    /// Puts a segment in its place by address. No limit is asked: it was taken out by `unmap`, and
-    /// passed the limits as it was mapped. With it, the segments lie in order and none meets another.
+    /// Puts a segment in its place by address. No limit is checked: the segment was taken out by
+    /// `unmap`, and was within the limits when it was mapped. With it, the segments lie in order and
+    /// none meets another.
     ///
     /// # Errors
     ///

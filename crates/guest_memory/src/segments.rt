@@ -21,7 +21,7 @@ use std::marker::Model;
 type Bases = BTreeMap<u64, usize>;
 
 /// Segments in order of address, no two of which meet. Each is under a key, so that none is moved when
-/// another comes or goes.
+/// another is added or removed.
 #[derive(Drop)]
 pub(crate) struct Segments {
     alloc: Global,
@@ -177,7 +177,7 @@ impl Segments {
     ///
     /// # Errors
     ///
-    /// `NoSegment` if there is none; else `ReadOnly` if a driver may not write it. After an error the
+    /// `NoSegment` if there is none; otherwise `ReadOnly` if a driver may not write it. After an error the
     /// segments are as before.
     #[inline]
     pub(crate) fn write(

@@ -284,7 +284,8 @@ impl Absent for Memory {
     }
 }
 
-/// A memory has no call that copies it, and is not Clone: else these would not be the calls of `Absent`.
+/// A memory has no call that copies it, and is not Clone: otherwise these would not be the calls of
+/// `Absent`.
 #[test]
 fn no_copies(rt: HostRuntime) -> Result<(), Fail> {
     let memory = Memory::new(rt.alloc());

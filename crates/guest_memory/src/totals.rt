@@ -65,7 +65,7 @@ impl Totals {
         }
     }
 
-    /// Counts one segment of a kind, with so many bytes, no more.
+    /// Counts one segment of a kind fewer, with so many bytes.
     pub(crate) fn subtract(&mut self, kind: SegKind, size: u64)
         requires bytes { size ≤ total_in self.old kind }
         requires blocks { IsTrue (is_block kind) → 0 < self.old.blocks }

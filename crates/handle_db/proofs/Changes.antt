@@ -84,7 +84,7 @@ module _ (entries : List HandleEntry) (at : ℕ) (entry : HandleEntry) (within :
       let parts = and_parts (list_all has_any (take at entries)) (list_all has_any (drop (suc at) entries)) (sym (list_all-append has_any (take at entries) (drop (suc at) entries)) ∙ others) in
       filter-all has_any (drop (suc at) entries) parts.1
 
-  -- it goes
+  -- it is removed
   pub gone_at : has_any entry ≡ false → remove entries at ≡ filter has_any entries
   gone_at none = sym (around ∙ rw (none, back) refl)
 
@@ -183,7 +183,7 @@ module _ (handle : ℕ) (guid : List ℕ) (db : Database) (at : ℕ) (entry : Ha
         let one = only_guid guid entry.interfaces place nothing kept_here.apart found in
         omega (arith, one.inside, kept_here.few)
 
-    -- what is answered of the interface
+    -- what is answered about the interface
     pub removal_at : (interface : Interface) → interface ≡ get_or entry.interfaces place interface → remove_answer handle guid db ≡ Ok (record { interface = interface.interface; owner = interface.owner; place = place; gone = nat_eq (length entry.interfaces) 1 })
     removal_at interface read =
         let one = only_guid guid entry.interfaces place interface kept_here.apart found in

@@ -46,7 +46,7 @@ equal_then Greater y = refl
 is_eq-nat_cmp : (a b : ℕ) → is_eq (nat_cmp a b) ≡ nat_eq a b
 is_eq-nat_cmp a b = grind (arith, nat_tests)
 
--- a naming is found where both its parts are equal
+-- a naming is found if both its parts are equal
 pub is_naming : (guid other : List ℕ) (handle number : ℕ) → is_eq (naming_cmp (guid, handle) (other, number)) ≡ (bytes_eq guid other && nat_eq handle number)
 is_naming guid other handle number =
     equal_then (slice_cmp nat_cmp guid other) (nat_cmp handle number)

@@ -30,7 +30,7 @@ last_pushed interfaces new =
     ∙ ap Some (get_or_at interfaces new [] new (length interfaces) refl) in
     ap (λ n. option_map (λ (one : Interface). one.guid) (slice_get (interfaces ++ new ∷ []) n)) count ∙ ap (option_map (λ (one : Interface). one.guid)) at
 
--- the others than the last
+-- all but the last
 pub others_pushed : (interfaces : List Interface) (new : Interface) → list_any (is_guid new.guid) interfaces ≡ false → others new.guid (interfaces ++ new ∷ []) ≡ interfaces
 others_pushed interfaces new none =
     filter-append (λ (one : Interface). not (is_guid new.guid one)) interfaces (new ∷ [])

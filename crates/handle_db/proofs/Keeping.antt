@@ -215,7 +215,7 @@ removing handle guid db sound =
       end = sound.end;
     }
 
--- ---- the interfaces that go with an image
+-- ---- the interfaces that are removed with an image
 
 kept-without_owned : (image : ℕ) (own : List ℕ) (entries : List HandleEntry) → list_all is_kept entries ≡ true → list_all is_kept (filter has_any (map (without_interfaces_of image own) entries)) ≡ true
 kept-without_owned image own [] all = refl

@@ -248,7 +248,7 @@ module _ (guid : List ℕ) (index : BTreeSet Naming) (db : Database) (is : IsIns
       (λ q. part_has guid db.next q index.keys ∙ ap (λ b. inside db.next q && b) (is.names guid q)
       ∙ and_same (inside db.next q) (has_in q guid db.handles) (outside_none q) ∙ sym (numbers_have guid q 1 db.handles is.sound.rising))
 
-  -- what the code reads of it
+  -- what the code reads from it
   pub handles_named : (next : ℕ) → next ≡ db.next → named guid next index ≡ numbers (filter (has_guid guid) db.handles)
   handles_named next same = ap (λ n. named guid n index) same ∙ named_is
 

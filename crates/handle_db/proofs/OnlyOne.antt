@@ -1,4 +1,4 @@
--- A list in which one element alone passes a test: what is found, changed and filtered there.
+-- A list in which only one element passes a test: what is found, changed and filtered there.
 use Rattle.std.proofs.Common.{◌≡◌, ◌<◌, ℕ, suc, Bool, true, false, not, ◌||◌, List, [], ◌∷◌, ◌++◌, length, map, filter, find, take, drop, get_or, set, Some, None, refl, ap, sym, ◌∙◌, if◌then◌else◌, arith}
 use Rattle.std.specs.List.{list_any, remove}
 use Rattle.std.proofs.Math.Seq.{drop-cons}

@@ -57,7 +57,7 @@ module _ (entries : List HandleEntry) (rise : rise_from 1 entries ≡ true) (han
       let up : handle_at entries i ≤ handle_at entries j = grind (arith, rises_at 1 entries i j rise, λ (same : i ≡ j). ap (handle_at entries) same) in
       grind (arith, nat_tests))
 
-  -- a binary search by number ends at the handle, or nowhere if no handle has the number
+  -- a binary search by number ends at the handle, or finds nothing if no handle has the number
   pub searched : (r : Result ℕ ℕ) → IsSearchInRange r (length entries) → IsBinarySearchResult (λ (entry : HandleEntry). nat_cmp entry.handle handle) entries r
       → record { found : IfSome (result_ok r) (IsPlaceOf handle entries); none : IfNone (result_ok r) (list_any (is_handle handle) entries ≡ false) }
   searched (Ok at) within equal = record { found = record { within = within; here = λ d. ranked _ handle _ (sym (equal d)) }; none = tt }
@@ -69,7 +69,7 @@ module _ (entries : List HandleEntry) (rise : rise_from 1 entries ≡ true) (han
         ne_eqb (handle_at entries k) handle (apart k at (handle_at entries k) low high));
   }
 
-  -- where no handle has the number, the search ends between the lesser and the greater ones
+  -- if no handle has the number, the search ends between the lesser and the greater ones
   pub room_searched : (at : ℕ) → IsSearchInRange (Err at) (length entries) → IsBinarySearchResult (λ (entry : HandleEntry). nat_cmp entry.handle handle) entries (Err at) → IsRoomFor handle entries at
   room_searched at within parted = record {
     within = within;

@@ -64,7 +64,7 @@ pub record IsRemovalOf (guid : List ℕ) (r : Removed) (had : List Interface) : 
   pub place : r.place ≡ position_or_len (is_guid guid) had
   pub gone : r.gone ≡ nat_eq (length had) 1
 
--- nothing changes where the handle is not
+-- nothing changes if the handle is not there
 pub without_none : (handle : ℕ) (guid : List ℕ) (entries : List HandleEntry) → list_any (is_handle handle) entries ≡ false → list_all is_kept entries ≡ true → without_interface handle guid entries ≡ entries
 without_none handle guid [] none all = refl
 without_none handle guid (entry ∷ entries) none all =
@@ -219,7 +219,7 @@ pub none_left : (guid : List ℕ) (interfaces : List Interface) → list_any (is
 none_left guid [] = refl
 none_left guid (first ∷ rest) = none_first guid first rest (is_guid guid first) refl (none_left guid rest)
 
--- what is answered of an entry
+-- what is answered about an entry
 removal_in : (guid : List ℕ) (r : Removed) (interfaces : List Interface) (one : Option Interface) → find (is_guid guid) interfaces ≡ one → removal_of interfaces guid one ≡ Ok r
     → IsRemovalOf guid r interfaces
 removal_in guid r interfaces None is answer = absurd cc

@@ -43,7 +43,7 @@ module _ (handle : ℕ) (guid : List ℕ) (made : Bool) (db : Database) (is : Is
         let no : None ≡ Some guid = sym (ap last_guid none) ∙ is.last in absurd cc)
   ]
 
-  -- removing it is not refused, and the handle goes exactly if it was made
+  -- removing it is not refused, and the handle is removed exactly if it was made for it
   pub removal_there : (r : Removed) × (remove_answer handle guid db ≡ Ok r) × (r.gone ≡ made)
   removal_there =
       let interfaces : List Interface = interfaces_of handle db in
@@ -54,7 +54,7 @@ module _ (handle : ℕ) (guid : List ℕ) (made : Bool) (db : Database) (is : Is
         is.alone,
       )
 
-  -- and the handles are below its number, if it goes
+  -- and the handles are below its number, if it is removed
   below_handle : (entries : List HandleEntry) → list_all (is_below (handle + 1)) entries ≡ true → list_any (is_handle handle) entries ≡ false → list_all (is_below handle) entries ≡ true
   below_handle [] below none = refl
   below_handle (entry ∷ entries) below none =
@@ -246,7 +246,7 @@ removed_last handle guid made db (Err refusal) is answer done = let there = remo
 
 -- ---- as the code puts back
 
--- what a call says of an error, or of the other case, where the code has tested which it is
+-- what a call says about an error, or about the other case, once the code has tested which it is
 pub err_gives : {T E P : Type 0} (result : Result T E) (test : Bool) → test ≡ true → test ≡ is_err result → OnErr result P → P
 err_gives (Ok value) test failed is gives = absurd (both_ways test is failed)
 err_gives (Err error) test failed is gives = gives
@@ -255,7 +255,7 @@ pub ok_gives : {T E P : Type 0} (result : Result T E) (test : Bool) → test ≡
 ok_gives (Ok value) test went is gives = gives
 ok_gives (Err error) test went is gives = absurd (both_ways test went is)
 
--- an interface put in where a handle is at a place
+-- an interface is put in at the place of a handle that is there
 pub record IsStaying (handle place : ℕ) (one : Interface) (entries : List HandleEntry) (at : ℕ) : Type 0 where
   pub within : (d : HandleEntry) → place ≤ length (get_or entries at d).interfaces
   pub put : (d : HandleEntry) → set entries at (inserted place one (get_or entries at d)) ≡ with_back (not (list_any (is_handle handle) entries)) handle place one entries
@@ -270,7 +270,7 @@ staying handle number place one shown entries at rise room same named found =
       put = λ d. rw live (set-only (inserted place one) (only_at handle entries at d rise is));
     }
 
--- the handle went exactly if it is not there
+-- the handle was removed exactly if it is not there
 pub gone_is : (handle : ℕ) (guid : List ℕ) (r : Removed) (db : Database) → HasRoomFor handle guid r db → not (list_any (is_handle handle) db.handles) ≡ r.gone
 gone_is handle guid r db room = ap not room.live ∙ twice r.gone
   where

@@ -106,7 +106,7 @@ pub record IsSound (db : Database) : Type 0 where
 
 -- ---- answers
 
--- a call gives this answer, except if it is out of memory
+-- a call gives this answer, unless it runs out of memory
 abbrev pub Gives : {T : Type 0} → Result T DbRefusal → Result T DbRefusal → Type 0
 Gives (Ok value) answer = answer ≡ Ok value
 Gives (Err BadHandle) answer = answer ≡ Err BadHandle

@@ -7,7 +7,8 @@ pub record IsPlaceOf (handle : ℕ) (entries : List HandleEntry) (place : ℕ) :
   pub within : place < length entries
   pub here : (other : HandleEntry) → (slice_index_or entries place other).handle ≡ handle
 
--- whether a handle fits in at a place: the handles before it have lesser numbers, and those from it on greater ones
+-- whether a handle fits in at a place: the handles before that place have lesser numbers, and those from it on have
+-- greater ones
 pub record IsRoomFor (handle : ℕ) (entries : List HandleEntry) (place : ℕ) : Type 0 where
   pub within : place ≤ length entries
   pub before : (k : ℕ) (other : HandleEntry) → k < place → (slice_index_or entries k other).handle < handle

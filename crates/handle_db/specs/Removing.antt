@@ -1,5 +1,5 @@
 -- Removing a protocol interface (UEFI 2.8, 'EFI_BOOT_SERVICES.UninstallProtocolInterface()'). A handle
--- whose last interface goes is no longer live.
+-- whose last interface is removed is no longer live.
 use Rattle.std.specs.Prelude.{ℕ, not, nat_eq, List, length, map, filter, find, Option, Some, None, Result, Ok, Err, if◌then◌else◌}
 use Rattle.std.specs.List.{position_or_len}
 use Rattle.handle_db.specs.Database.{Database, IsSound, is_handle, is_guid, is_live, interfaces_of, has_any}
@@ -9,8 +9,8 @@ use Rattle.handle_db.specs.declared.refusal.DbRefusal.{DbRefusal}
 use Rattle.handle_db.specs.declared.refusal.DbRefusal.TheVariants.{BadHandle, NotThere}
 use Rattle.handle_db.specs.declared.refusal.Removed.{Removed}
 
--- what is answered of a handle's interface of a protocol that is removed, if there is one: what it is, its
--- place among those of its handle, and whether the handle goes with it
+-- what is answered about a handle's interface of a protocol that is removed, if there is one: what it is,
+-- its place among those of its handle, and whether the handle is removed with it
 abbrev pub removal_of : List Interface → List ℕ → Option Interface → Result Removed DbRefusal
 removal_of interfaces guid None = Err NotThere
 removal_of interfaces guid (Some one) = Ok (record {

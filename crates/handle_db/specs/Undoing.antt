@@ -14,18 +14,18 @@ use Rattle.handle_db.specs.declared.refusal.Removed.{Removed}
 abbrev pub last_guid : List Interface → Option (List ℕ)
 last_guid interfaces = option_map (λ (one : Interface). one.guid) (slice_get interfaces (length interfaces - 1))
 
--- An interface was the last to be installed on a handle. It is the handle's only one exactly if it made the handle, and
--- the handle is then the newest.
+-- An interface was the last to be installed on a handle. It is the handle's only one exactly if the handle was made for
+-- it, and the handle is then the newest.
 pub record IsInstalledLast (handle : ℕ) (guid : List ℕ) (made : Bool) (db : Database) : Type 0 where
   pub last : last_guid (interfaces_of handle db) ≡ Some guid
   pub alone : nat_eq (length (interfaces_of handle db)) 1 ≡ made
   pub newest : made ≡ true → db.next ≡ handle + 1
 
--- the database without the interface; if it made the handle, the handle's number is the next one again
+-- the database without the interface; if the handle was made for it, the handle's number is the next one again
 abbrev pub install_undone : ℕ → List ℕ → Bool → Database → Database
 install_undone handle guid made db = record (removed handle guid db) { next = if made then handle else db.next }
 
--- what is installed, if it is not refused, can be taken back, and that gives the database of before
+-- what is installed, if it is not refused, can be taken back, and that gives the earlier database
 abbrev pub InstallingIsUndone : Type 0
 InstallingIsUndone =
     (given : Option ℕ) (new : Interface) (db : Database)
@@ -40,8 +40,8 @@ InstallingIsUndone =
 abbrev pub interface_again : List ℕ → Removed → Interface
 interface_again guid r = record { guid = guid; interface = r.interface; owner = r.owner }
 
--- There is room for an interface that was removed, at its place. If its handle went with it, the handle is not live, and
--- there is room for it too.
+-- There is room for an interface that was removed, at its place. If its handle was removed with it, the handle is not
+-- live, and there is room for it too.
 pub record HasRoomFor (handle : ℕ) (guid : List ℕ) (r : Removed) (db : Database) : Type 0 where
   pub live : is_live handle db ≡ not r.gone
   pub lacks : has handle guid db ≡ false
@@ -66,12 +66,12 @@ abbrev pub with_interface_at : ℕ → ℕ → Interface → List HandleEntry �
 with_interface_at handle place one entries =
     map (λ (entry : HandleEntry). if is_handle handle entry then inserted place one entry else entry) entries
 
--- the handles with one more interface of a handle, at a place; if the handle is gone, with the handle
+-- the handles with one more interface of a handle, at a place; if the handle was removed, with the handle
 abbrev pub with_back : (gone : Bool) → ℕ → ℕ → Interface → List HandleEntry → List HandleEntry
 with_back gone handle place one entries =
     if gone then with_entry (new_entry handle one) entries else with_interface_at handle place one entries
 
--- the handles with an interface that was removed, and with its handle, if that went too
+-- the handles with an interface that was removed, and with its handle, if that was removed too
 abbrev pub with_removed : ℕ → List ℕ → Removed → List HandleEntry → List HandleEntry
 with_removed handle guid r entries = with_back r.gone handle r.place (interface_again guid r) entries
 
@@ -79,7 +79,7 @@ with_removed handle guid r entries = with_back r.gone handle r.place (interface_
 abbrev pub remove_undone : ℕ → List ℕ → Removed → Database → Database
 remove_undone handle guid r db = record db { handles = with_removed handle guid r db.handles }
 
--- what is removed can be put back, and that gives the database of before
+-- what is removed can be put back, and that gives the earlier database
 abbrev pub RemovingIsUndone : Type 0
 RemovingIsUndone =
     (handle : ℕ) (guid : List ℕ) (r : Removed) (db : Database)

@@ -41,7 +41,8 @@ pub fn take_at(entries: &mut Vec<HandleEntry>, at: usize, place: usize) -> Inter
     entry.interfaces.remove(place)
 }
 
-/// What is answered of an interface that was at a place among a number of interfaces of its handle.
+/// What is answered about an interface that was at a place among a number of interfaces of its
+/// handle.
 pub fn removal(interface: &Interface, place: usize, count: usize) -> Removed
     requires { place < MOST_INTERFACES }
     ensures { result ≡ record {

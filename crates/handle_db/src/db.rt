@@ -109,8 +109,8 @@ impl Db {
     }
 
     /// Removes a handle's interface of a protocol and answers what it was (UEFI 2.8, 7.3:
-    /// UninstallProtocolInterface). If it was the handle's last interface, the handle goes too. Takes no
-    /// memory.
+    /// UninstallProtocolInterface). If it was the handle's last interface, the handle is removed too. Takes
+    /// no memory.
     ///
     /// # Errors
     ///
@@ -137,10 +137,10 @@ impl Db {
         Ok(removal(&interface, place, count))
     }
 
-    /// Takes an installation back: the last of a handle's interfaces, which is of a protocol, goes. `made`
-    /// says whether the handle was made for it; then it is the handle's only one, the handle is the newest,
-    /// and it goes too, so that its number is the next one again. Else the handle has others. Takes no
-    /// memory.
+    /// Takes an installation back: removes the last of a handle's interfaces, which is of this protocol.
+    /// `made` says whether the handle was made for it. If so, it is the handle's only one, the handle is
+    /// the newest, and it is removed too, so that its number is the next one again. Otherwise the handle
+    /// has others. Takes no memory.
     pub fn undo_install(&mut self, handle: Handle, guid: Guid, made: bool)
         requires { IsInstalledLast handle guid made self.old }
         ensures { self.new ≡ install_undone handle guid made self.old }
@@ -152,9 +152,9 @@ impl Db {
         }
     }
 
-    /// Takes a removal back: the interface of a protocol that was removed from a handle is again at its
-    /// place. If the handle went with it, the handle is live again, with its number. The database is as the
-    /// removal left it.
+    /// Takes a removal back: the interface of a protocol that was removed from a handle is at its place
+    /// again. If the handle was removed with it, the handle is live again, with its number. The database is
+    /// as the removal left it.
     ///
     /// # Errors
     ///
@@ -184,9 +184,9 @@ impl Db {
         Ok(())
     }
 
-    /// Removes the interfaces that go with an image (UEFI 2.8, 7.4: UnloadImage): those that it owns,
-    /// and the interface of the protocol `own` on its own handle, whoever owns that. A handle whose last
-    /// interface goes is no longer live. Takes no memory.
+    /// Removes the interfaces that belong to an image (UEFI 2.8, 7.4: UnloadImage): those that it owns, and
+    /// the interface of the protocol `own` on its own handle, whoever owns that. A handle whose last
+    /// interface is removed is no longer live. Takes no memory.
     pub fn remove_owned(&mut self, image: Handle, own: Guid)
         ensures { self.new ≡ without_owned image own self.old }
     {

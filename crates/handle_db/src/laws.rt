@@ -16,7 +16,7 @@ pub fn removing_keeps()
     ensures { RemovingKeeps }
 {}
 
-/// After the interfaces that go with an image are removed, a sound database is sound.
+/// After the interfaces that belong to an image are removed with it, a sound database is sound.
 pub fn removing_owned_keeps()
     ensures { RemovingOwnedKeeps }
 {}

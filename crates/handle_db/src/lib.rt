@@ -3,8 +3,8 @@
 //! A contract sees a `Db` as the record `Database`: the handles by rising number, each with its
 //! interfaces in order of installation, the number of the next new handle, and how many handles may be
 //! live. `Db`'s calls are those of the database services, and two that take an installation or a removal
-//! back; `laws` says what the changes keep, and that what is taken back leaves the database of before.
-//! Handles are found by halving, and those that have a protocol by an index.
+//! back. `laws` says what the changes keep, and that taking a change back gives the earlier database.
+//! Handles are found by binary search, and those that have a protocol by an index.
 #![tactic(auto)]
 
 mod changing;

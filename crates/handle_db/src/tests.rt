@@ -44,7 +44,7 @@ fn installing(rt: HostRuntime) -> Result<(), Fail> {
     Ok(())
 }
 
-/// A handle goes with its last interface, and its number is not given to another.
+/// A handle is removed with its last interface, and its number is not given to another.
 #[test]
 fn removing(rt: HostRuntime) -> Result<(), Fail> {
     let mut db = Db::new(rt.alloc(), MOST_HANDLES);
@@ -86,8 +86,8 @@ fn of_four_handles(alloc: Global, owner: Handle) -> Result<Db, DbRefusal> {
     Ok(db)
 }
 
-/// What a database says of handles: which there are, which have a protocol, and how many; before and after one
-/// of them goes.
+/// What a database says about handles: which there are, which have a protocol, and how many; before
+/// and after one of them is removed.
 #[test]
 fn handles_of_a_database(rt: HostRuntime) -> Result<(), Fail> {
     let owner = handle(&rt, 2);
@@ -109,7 +109,7 @@ fn handles_of_a_database(rt: HostRuntime) -> Result<(), Fail> {
     Ok(())
 }
 
-/// What a database says of the interfaces of a handle.
+/// What a database says about the interfaces of a handle.
 #[test]
 fn interfaces_of_a_handle(rt: HostRuntime) -> Result<(), Fail> {
     let owner = handle(&rt, 2);
@@ -156,7 +156,8 @@ impl Absent for Db {
     }
 }
 
-/// A database has no call that copies it, and is not Clone: else these would not be the calls of `Absent`.
+/// A database has no call that copies it, and is not Clone: otherwise these would not be the calls
+/// of `Absent`.
 #[test]
 fn no_copies(rt: HostRuntime) -> Result<(), Fail> {
     let db = Db::new(rt.alloc(), 1);
@@ -186,7 +187,7 @@ fn limits(rt: HostRuntime) -> Result<(), Fail> {
     let again = db.install(Some(last), guid(63), 0, Handle::firmware());
     assert_eq!(rt; again.err(), Some(DbRefusal::Already));
     assert_eq!(rt; db.protocols_of(last)?.len(), 64);
-    // a handle that goes makes room for a new one
+    // a handle that is removed makes room for a new one
     db.remove(Handle::firmware(), guid(0))?;
     assert!(rt; !db.is_full());
     let new = db.install(None, guid(0), 0, Handle::firmware())?;
@@ -216,7 +217,7 @@ fn removed_and_back(db: &mut Db, handle: Handle, guid: Guid) -> Result<Removed, 
     Ok(removed)
 }
 
-/// An interface goes and comes again at its place, and so does a handle with its number.
+/// An interface is removed and comes back at its place, and so does a handle with its number.
 #[test]
 fn taken_back(rt: HostRuntime) -> Result<(), Fail> {
     let mut db = Db::new(rt.alloc(), MOST_HANDLES);

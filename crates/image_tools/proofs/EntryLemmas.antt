@@ -12,11 +12,11 @@ use Rattle.image_tools.specs.declared.answer.Answer.{Answer}
 use Rattle.image_tools.specs.Tools.{answer, driver_parts, parts_answer}
 use Rattle.image_tools.specs.ToolTexts.{refused_parts_line}
 
--- what the law of the image writer says of an entry past the most bytes of a file
+-- what the law of the image writer says about an entry past the most bytes of a file
 abbrev pub FarEntries : Type 0
 FarEntries = (parts : DriverParts) (entry : ℕ) → MOST_FILE_BYTES ≤ entry → fault_of (record parts { entry = entry }) ≡ Some (if is_too_long parts then TooLong else BadEntry)
 
--- two entries past them are refused alike
+-- two entries past them are refused in the same way
 far_same : FarEntries → (code : List ℕ) (near far : ℕ) → MOST_FILE_BYTES ≤ near → MOST_FILE_BYTES ≤ far → parts_answer (driver_parts code near) ≡ parts_answer (driver_parts code far)
 far_same law code near far past too =
     let parts = driver_parts code 0 in

@@ -29,7 +29,7 @@ text-status : (line : Option ℕ) (entry : Option (List ℕ)) (text : List ℕ) 
 text-status None entry text = assembled-status (assembly_of text) entry text
 text-status (Some number) entry text = refl
 
--- the answer over a listing has a status of files
+-- the answer for a listing has a status of files
 pub listing-status : (entry : Option (List ℕ)) (text : List ℕ) → is_file_status (listing_answer entry text).status ≡ true
 listing-status entry text = text-status (line_not_ascii 1 text) entry text
 
@@ -37,7 +37,7 @@ rom-status : (fault : Option RomWriteFault) (parts : List RomPart) → is_file_s
 rom-status None parts = refl
 rom-status (Some fault) parts = refl
 
--- and so has the answer over the bytes of files
+-- and so has the answer for the bytes of files
 pub bodies-status : (vendor device class : ℕ) (bodies : List (List ℕ)) → is_file_status (bodies_answer vendor device class (Ok bodies)).status ≡ true
 bodies-status vendor device class bodies = rom-status (rom_fault_of (parts_of vendor device class bodies)) (parts_of vendor device class bodies)
 

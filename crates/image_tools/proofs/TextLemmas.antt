@@ -29,7 +29,7 @@ first_and_others : (test : Bool) (number : ℕ) (line : Option ℕ) (bytes : Lis
 first_and_others true number line bytes left others = others left
 first_and_others false number line bytes left others = absurd cc
 
--- a text of which no line is refused has bytes of a listing alone
+-- a text of which no line is refused has only bytes of a listing
 pub all-listing : (number : ℕ) (bytes : List ℕ) → line_not_ascii number bytes ≡ None → list_all is_listing_byte bytes ≡ true
 all-listing number [] h = refl
 all-listing number (b ∷ bytes) h = first_and_others (is_listing_byte b) number (line_not_ascii (number_after number b) bytes) bytes h (λ left. all-listing (number_after number b) bytes left)

@@ -15,7 +15,7 @@ use Rattle.ebc_asm.specs.declared.fault.AsmKind.{AsmKind}
 use Rattle.ebc_asm.specs.declared.fault.AsmKind.TheVariants as kind
 use Rattle.report_text.specs.Report.{end_word, hex, line, refusal_word}
 
--- words of none of the forms
+-- the line for words that have none of the forms
 abbrev pub usage_line : List ℕ
 usage_line = codes "usage: asm LISTING [ENTRY], rom VENDOR DEVICE CLASS FILE..., walk ROM, look IMAGE" ++ 10 ∷ []
 
@@ -129,7 +129,7 @@ unfoldable pub section_line : Section → List ℕ
 section_line section =
     codes "section " ++ 34 ∷ shown_name section.name ++ 34 ∷ [] ++ image_fields section ++ file_fields section ++ 10 ∷ []
 
--- what an accepted image says of itself
+-- what an accepted image says about itself
 abbrev pub image_text : List ℕ → List ℕ
 image_text file =
     line (codes "subsystem" ∷ decimal (subsystem_of file) ∷ [])

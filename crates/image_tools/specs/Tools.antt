@@ -1,4 +1,4 @@
--- What the image tools answer to their words over the files of a shelf: a status, and the bytes that they
+-- What the image tools answer to their words, with the files of a shelf: a status, and the bytes that they
 -- write.
 use Rattle.std.specs.Prelude.{◌≡◌, ℕ, ◌+◌, List, [], ◌∷◌, Bool, ◌||◌, Option, Some, None, Result, Ok, Err, bytes_eq, codes, map, nat_eq, option_map, String, string_bytes, if◌then◌else◌}
 use Rattle.std.specs.declared.alloc.Global.{Global}
@@ -33,14 +33,14 @@ words_in words = map string_bytes words
 
 -- What the words ask for, with names of files: the image of a listing, entered at a label if one is given;
 -- an option ROM of files, for a vendor, a device and a class; the images of an option ROM; or what an image
--- says of itself.
+-- says about itself.
 pub data Form : Type 0 where
   asm : List ℕ → Option (List ℕ) → Form
   rom : ℕ → ℕ → ℕ → List (List ℕ) → Form
   walk : List ℕ → Form
   look : List ℕ → Form
 
--- the form that a value of the code is: it has the words themselves in place of references to them
+-- the form for a value of the code: it has the words themselves in place of references to them
 abbrev pub form_value : FormOfCode → Form
 form_value (Asm listing entry) = asm listing.now (option_map (λ name. name.now) entry)
 form_value (Rom vendor device class files) = rom vendor device class (words_in files.now)
@@ -100,7 +100,7 @@ found_value Absent = absent
 found_value (Present bytes) = present bytes
 found_value TooLong = too_long
 
--- the answer over the bytes of a file, or the line that says that it is absent or too long
+-- the answer for the bytes of a file, or the line that says that it is absent or too long
 abbrev pub file_answer : List ℕ → NamedFile → (List ℕ → Answer) → Answer
 file_answer name absent answer_over = answer 6 (absent_line name)
 file_answer name (present bytes) answer_over = answer_over bytes
@@ -116,7 +116,7 @@ is_listing_byte b = is_text_byte b || nat_eq b 10 || nat_eq b 13
 abbrev pub number_after : ℕ → ℕ → ℕ
 number_after number b = if nat_eq b 10 then number + 1 else number
 
--- the line of the first byte that no listing has, if the first byte is in a line with this number
+-- the line of the first byte that no listing may have, if the first byte is in a line with this number
 abbrev pub line_not_ascii : ℕ → List ℕ → Option ℕ
 line_not_ascii number [] = None
 line_not_ascii number (b ∷ bytes) =
@@ -149,7 +149,7 @@ abbrev pub assembled_answer : Result (List ℕ) (ℕ × AsmKind) → Option (Lis
 assembled_answer (Ok code) entry text = entered_answer (entry_place entry text) code
 assembled_answer (Err (number, kind)) entry text = answer 8 (refused_line number (kind_word kind))
 
--- a listing is text before it is read
+-- a listing is checked to be text before it is read
 abbrev pub text_answer : Option ℕ → Option (List ℕ) → List ℕ → Answer
 text_answer None entry text = assembled_answer (assembly_of text) entry text
 text_answer (Some number) entry text = answer 8 (refused_line number not_ascii)
@@ -209,7 +209,7 @@ form_answer files (Some (rom vendor device class names)) = bodies_answer vendor 
 form_answer files (Some (walk name)) = file_answer name (file_of files name) walk_answer
 form_answer files (Some (look name)) = file_answer name (file_of files name) look_answer
 
--- the answer to words over these files
+-- the answer to words with these files
 abbrev pub answer_of : Files → List (List ℕ) → Answer
 answer_of files words = form_answer files (form_of words)
 
@@ -219,7 +219,7 @@ answer_of files words = form_answer files (form_of words)
 abbrev pub gives_up : ℕ → Bool
 gives_up status = nat_eq status 3 || nat_eq status 4 || nat_eq status 5
 
--- whether a status is one that an answer over files has, and one that any answer has
+-- whether a status is one that an answer with files may have; and one that any answer may have
 abbrev pub is_file_status : ℕ → Bool
 is_file_status status = nat_eq status 0 || nat_eq status 6 || nat_eq status 7 || nat_eq status 8
 

@@ -24,7 +24,7 @@ fn is_listing_byte(byte: u8) -> bool
     matches!(byte, 9 | 10 | 13 | 32..=126)
 }
 
-/// The line of the first byte that no listing has, counted from 1.
+/// The line of the first byte that no listing may have, counted from 1.
 fn line_not_ascii(text: &[u8]) -> Option<u64>
     ensures line { result ≡ line_not_ascii 1 text.now }
     ensures none { IfNone result (list_all is_listing_byte text.now ≡ true) }
@@ -47,7 +47,7 @@ fn number_after(number: u64, byte: u8) -> u64
     if byte == b'\n' { number + 1 } else { number }
 }
 
-/// The text that bytes are which all are ASCII.
+/// The text of bytes that are all ASCII.
 fn text_of(bytes: &[u8]) -> &str
     requires { list_all is_listing_byte bytes.now ≡ true }
     ensures { result.now ≡ bytes.now }
@@ -58,7 +58,7 @@ fn text_of(bytes: &[u8]) -> &str
     }
 }
 
-/// The answer over the bytes of a listing.
+/// The answer for the bytes of a listing.
 ///
 /// # Errors
 ///
@@ -78,7 +78,7 @@ pub fn listing_answer(
     }
 }
 
-/// The answer over a listing that is text.
+/// The answer for a listing that is text.
 ///
 /// # Errors
 ///
@@ -97,7 +97,7 @@ fn assembled_answer(alloc: Global, label: Option<&str>, text: &str) -> Result<An
     }
 }
 
-/// The answer over the bytes of a text.
+/// The answer for the bytes of a text.
 ///
 /// # Errors
 ///
@@ -134,8 +134,8 @@ fn entry_place(alloc: Global, label: Option<&str>, text: &str) -> Result<Option<
     }
 }
 
-/// The parts of a driver of code that is entered at a place. A place past 32 bits is cut to the
-/// last one of 32 bits.
+/// The parts of a driver with this code, which is entered at a place. A place past 32 bits is cut
+/// to the last one of 32 bits.
 fn driver_parts(alloc: Global, code: Vec<u8>, place: u64) -> DriverParts
     ensures { result ≡ driver_parts code.items (min place last_place) }
 {
@@ -155,7 +155,7 @@ fn driver_parts(alloc: Global, code: Vec<u8>, place: u64) -> DriverParts
 fn image_answer(alloc: Global, code: Vec<u8>, place: u64) -> Result<Answer, OutOfMemory>
     ensures { IfOk result (λ made. made ≡ parts_answer (driver_parts code.items place)) }
 {
-    // No image has the last place of 32 bits, nor one past it: both are refused alike.
+    // No image has the last place of 32 bits, nor one past it: both are refused in the same way.
     far_entries_are_refused();
     let parts = driver_parts(alloc, code, place);
     match pe_of(alloc, &parts) {

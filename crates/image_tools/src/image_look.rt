@@ -1,4 +1,4 @@
-//! `look`: what an image says of itself.
+//! `look`: what an image says about itself.
 ghost use Rattle.std.specs.Prelude.{◌≡◌, ◌++◌, IfOk, OnOk, map, string_bytes};
 ghost use Rattle.std.specs.List.{flat_map};
 ghost use Rattle.pe_image.specs.ImageRules.{refusal_of};
@@ -139,7 +139,7 @@ fn refusal_text(alloc: Global, refusal: PeRefusal) -> Result<String, OutOfMemory
     Ok(format!(in alloc; "image {word}\n")?)
 }
 
-/// The lines of the image that bytes are, or the line that says why they are refused.
+/// The lines for the bytes of an image, or the line that says why they are refused.
 ///
 /// # Errors
 ///
@@ -154,7 +154,7 @@ fn look_text(alloc: Global, file: &[u8]) -> Result<String, OutOfMemory>
     }
 }
 
-/// The answer over the bytes of an image.
+/// The answer for the bytes of an image.
 ///
 /// # Errors
 ///

@@ -2,8 +2,8 @@
 //! is in an option ROM or in an image.
 //!
 //! `words` reads what is asked for, and `respond` answers it: `assembling` (`asm`), `rom_making`
-//! (`rom`), `rom_walk` (`walk`) and `image_look` (`look`) make the answers over the bytes of the
-//! files, which `files` reads. `tools` is all of this over any shelf and any sink. The definitions
+//! (`rom`), `rom_walk` (`walk`) and `image_look` (`look`) make the answers for the bytes of the
+//! files, which `files` reads. `tools` is all of this for any shelf and any sink. The definitions
 //! are `specs/Tools.antt` and `specs/ToolTexts.antt`; `laws` has what holds of the answers.
 #![tactic(auto)]
 
@@ -34,7 +34,7 @@ use std::process::ExitCode;
 /// The status if the program is out of memory before it begins.
 const NO_MEMORY: u8 = 5;
 
-/// The status if the runtime does not give the words for any other cause.
+/// The status if the runtime does not give the words for any other reason.
 const NO_RUNTIME: u8 = 9;
 
 fn main(rt: HostRuntime) -> ExitCode {

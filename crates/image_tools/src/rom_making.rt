@@ -13,7 +13,7 @@ use fw_types::{OutOfMemory, Rows};
 use rom_builder::rom_of;
 use std::alloc::Global;
 
-/// The answer over the bytes of the files.
+/// The answer for the bytes of the files.
 ///
 /// # Errors
 ///
@@ -37,7 +37,7 @@ fn bodies_answer(
     }
 }
 
-/// The answer over the files under names.
+/// The answer for the files under names.
 ///
 /// # Errors
 ///

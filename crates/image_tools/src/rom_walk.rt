@@ -111,7 +111,7 @@ fn rom_text(alloc: Global, rom: &[u8]) -> Result<String, OutOfMemory>
     Ok(text)
 }
 
-/// The answer over the bytes of an option ROM.
+/// The answer for the bytes of an option ROM.
 ///
 /// # Errors
 ///

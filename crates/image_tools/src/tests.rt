@@ -18,7 +18,7 @@ const STALL: &str = "; calls Stall of the boot services\n\
 const STALL_CODE: &[u8] = b"\x01\x02\x03\x04\x05\x06\x07\x08\
     \x60\x84\x18\x00\x60\xC4\x60\x00\x35\x05\x83\x2C\xF8\x00\x00\x00\x36\x05\x04\x00";
 
-/// What `look` says of its image.
+/// What `look` says about its image.
 const STALL_LOOK: &str = "subsystem 11\nsize 0x400\nentry 0x208\n\
     section \".text\" address 0x200 size 0x1c file-offset 0x200 file-size 0x200\n";
 

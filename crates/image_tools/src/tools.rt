@@ -31,7 +31,7 @@ pub fn tools<F: Shelf, K: Sink>(
     // byte, the answer's output.
     ensures answered { (files : Files) → F.files shelf.old ≡ Some files → gives_up result ≡ false
         → IsAnswered files (words_in words.now.items) result (K.taken sink.old) (K.taken sink.new) }
-    // Status 1 comes exactly for words of no form, also if the files of the shelf are not known.
+    // Status 1 comes exactly for words of no form, even if the files of the shelf are not known.
     ensures usage { gives_up result ≡ false
         → nat_eq result 1 ≡ is_none (form_of (words_in words.now.items)) }
     // The statuses that there are.
@@ -83,8 +83,8 @@ fn written<K: Sink>(status: u8, output: &[u8], sink: &mut K) -> u8
     }
 }
 
-/// The program over a shelf and a sink in memory, neither of which fails, with room for the whole
-/// output: it gives its answer, unless it is out of memory.
+/// The program with a shelf and a sink in memory, neither of which fails, and with room for the
+/// whole output: it gives its answer, unless it runs out of memory.
 pub fn tools_in_memory(
     alloc: Global,
     words: &Vec<String>,

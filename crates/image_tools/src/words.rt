@@ -21,7 +21,7 @@ pub enum Form<'a> {
     },
     /// The images of an option ROM.
     Walk(&'a str),
-    /// What an image says of itself.
+    /// What an image says about itself.
     Look(&'a str),
 }
 

@@ -98,7 +98,7 @@ new_one x rec xs apart is =
     weak true false is nothing = absurd cc
     weak false b is nothing = refl
 
--- it is new beside those before it
+-- it is new among those before it
 pub new_after : (xs : List Rec) (rec : Rec) (ys : List Rec) → stand_apart (xs ++ rec ∷ ys) ≡ true → IsNew rec xs
 new_after [] rec ys apart = record { unequal = refl; holder = λ strong. refl }
 new_after (x ∷ xs) rec ys apart =

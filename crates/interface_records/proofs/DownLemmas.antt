@@ -159,7 +159,7 @@ module _ (meant : Meant) (index : set.BTreeSet Naming) (rows : List Row) where
     ];
   }
 
--- ---- what the attributes tell of the records
+-- ---- what the attributes say about the records
 
 -- whether a record's attribute has one of some bits, as is wanted
 abbrev pub rec_has : (bits : ℕ) (wanted : Bool) → Rec → Bool
@@ -218,7 +218,7 @@ module _ (index : set.BTreeSet Naming) (rows : List Row) (exact : NamesEach has_
 
 -- ---- agents in order
 
--- where an opener is not before another, its agent is at least as large
+-- if an opener is not before another, its agent is at least as large
 pub agent_up_to : (last opener : Opener) → is_lt (opener_cmp last opener) ≡ false → opener.0 ≤ last.0
 agent_up_to last opener late = elim (cases_lt last.0 opener.0) [
   | inl below ↦

@@ -1,4 +1,4 @@
--- Records that go.
+-- Records that are removed.
 use Rattle.std.proofs.Common.{◌≡◌, ◌<◌, ℕ, Bool, true, false, ◌&&◌, not, nat_eq, nat_le, List, [], ◌∷◌, Option, Some, None, refl, sym, ap, ◌∙◌, inl, inr, arith, cond, filter, if◌then◌else◌}
 use Rattle.std.specs.Map.{keys_of, remove_entry}
 use Rattle.std.specs.declared.cmp.Ordering.{Ordering}
@@ -19,7 +19,7 @@ use Rattle.interface_records.proofs.IndexLemmas.{eq-nat}
 use Rattle.interface_records.proofs.PlaceLemmas.{later_at}
 use Rattle.interface_records.proofs.RowLemmas.{flip, head_at, later_rising, none_later, tail_at}
 
--- ---- two lists of rows with the same records under their stamps, except those that go
+-- ---- two lists of rows with the same records under their stamps, except those that are removed
 
 module _ (test : Rec → Bool) where
   -- those of the old rows that pass are gone
@@ -51,7 +51,7 @@ module _ (test : Rec → Bool) where
       by_order Equal is = grind (arith, nat_tests, is, differs)
       by_order Greater is = grind (arith, nat_tests, is)
 
-  -- where the first goes, the others are left
+  -- if the first is removed, the others are left
   left_later : (row : Row) (rows new : List Row) → Rising (row ∷ rows) → test row.1 ≡ true → AreLeft (row ∷ rows) new → AreLeft rows new
   left_later row rows new up passes are stamp = elim (cases_Bool (nat_eq stamp row.0)) [
     | inl here ↦
@@ -60,7 +60,7 @@ module _ (test : Rec → Bool) where
     | inr away ↦ are stamp ∙ ap (left test) (tail_at row rows stamp away)
   ]
 
-  -- where the first stays, it is the first
+  -- if the first stays, it is the first
   first_stays : (row n : Row) (rows ns : List Row) → Rising (row ∷ rows) → Rising (n ∷ ns) → test row.1 ≡ false → AreLeft (row ∷ rows) (n ∷ ns) → row ≡ n
   first_stays row n rows ns up rising fails are = elim (cases_Bool (nat_eq n.0 row.0)) [
     | inl here ↦

@@ -161,7 +161,7 @@ taken_again stamp rec old new up there is rising apart =
 
 -- ---- room
 
--- where there is a row under a stamp, it is the last up to it
+-- if there is a row under a stamp, it is the last up to it
 present_last : (stamp : ℕ) (rec : Rec) (rows : List Row) → Rising rows → at rows stamp ≡ Some rec → last_of (up_to stamp rows) ≡ Some (stamp, rec)
 present_last stamp rec [] up there = absurd cc
 present_last stamp rec (row ∷ rows) up there = by_order (λ rest. present_last stamp rec rows (later_rising row rows up) rest) (nat_cmp stamp row.0) refl

@@ -27,7 +27,7 @@ below_more stamp rec (row ∷ rows) below = (omega arith, below_more stamp rec r
 pub below_next : (stamp : ℕ) (rec : Rec) (rows new : List Row) → AreBelow stamp rows → new ≡ insert_entry nat_cmp rows stamp rec → AreBelow (stamp + 1) new
 below_next stamp rec rows new below is = rw (is, inserted_last stamp rec rows below) (below_more stamp rec rows below)
 
--- the next of some records that stand apart is new
+-- if no record excludes another, the next of them is new
 pub next_new : (rows : List Row) (rec : Rec) (rest records : List Rec) → stand_apart records ≡ true → records_in rows ++ rec ∷ rest ≡ records → IsNew rec (records_in rows)
 next_new rows rec rest records apart whole = new_after (records_in rows) rec rest (ap stand_apart whole ∙ apart)
 

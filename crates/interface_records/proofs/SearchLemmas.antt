@@ -1,4 +1,4 @@
--- What the indexes give where records are asked for.
+-- What the indexes give when records are asked for.
 use Rattle.std.proofs.Common.{◌≡◌, ◌+◌, ◌≤◌, ℕ, is_some, Bool, true, false, ◌&&◌, ◌||◌, not, nat_eq, nat_lt, List, [], ◌∷◌, ◌++◌, Option, Some, None, MatchBool, refl, sym, ap, ◌∙◌, inl, inr, arith, append_assoc, filter, map, unwrap_or, if◌then◌else◌}
 use Rattle.std.specs.List.{list_any}
 use Rattle.std.specs.Map.{lookup, values_of}
@@ -261,7 +261,7 @@ module _ (rows : List Row) (indexes : Indexes) (indexed : IsIndexed rows indexes
         | inr other ↦ or_right (has_number stamp (opened name None indexes.by_opener)) _ (numbered_all _ indexes.by_controller rows indexed.controllers name stamp rec there (rw other at is))
       ]
 
-  -- none is of an agent, so those for a controller tell
+  -- no record is of an agent, so those for a controller decide
   pub answered_both : (name : ℕ) → list_any (chosen_at (is_named name) rows) (opened name None indexes.by_opener) ≡ false → (b : Bool) → b ≡ list_any (chosen_at (is_named name) rows) (numbered name indexes.by_controller)
       → MatchBool b (SomePasses (is_named name) rows) (NonePasses (is_named name) rows)
   answered_both name none b is = answered (is_named name) rows (numbered name indexes.by_controller) rest b is

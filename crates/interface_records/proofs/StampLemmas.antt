@@ -1,4 +1,4 @@
--- The last row below a stamp, and what the records that pass a test tell of their list.
+-- The last row below a stamp, and what the records that pass a test say about their list.
 use Rattle.std.proofs.Common.{◌≡◌, ◌<◌, ◌≤◌, ℕ, Bool, true, false, not, nat_le, List, [], ◌∷◌, Option, Some, None, MatchBool, refl, sym, ap, ◌∙◌, inl, inr, arith, filter}
 use Rattle.std.specs.List.{list_all, list_any}
 use Rattle.std.specs.Option.{IsSome}
@@ -61,7 +61,8 @@ pub any_in : (test : Rec → Bool) (rows : List Row) → Rising rows → (b : Bo
 any_in test rows up true is = sym (some_in test rows is)
 any_in test rows up false is = sym (none_in test rows up is)
 
--- what is at least as large as each name under a stamp is so for each name of the list
+-- what is at least as large as each name under a stamp is at least as large as each name of the
+-- list
 pub names_up_to : (rows : List Row) → Rising rows → (number : ℕ) → ((name : ℕ) → SomePasses (is_named name) rows → name ≤ number) → (name : ℕ) → list_any (is_named name) (records_in rows) ≡ true → name ≤ number
 names_up_to rows up number least name some = elim (cases_lt number name) [
   | inl above ↦
@@ -87,7 +88,7 @@ none_kept test (rec ∷ records) none =
     let parts = or_parts (test rec) (list_any test records) none in
     rw parts.0 (none_kept test records parts.1)
 
--- no entry of the index tells of a child
+-- no entry of the index is for a child
 pub no_child : (index : set.BTreeSet Naming) (rows : List Row) → NamesEach has_attr index rows → list_any (chosen_at is_for_child rows) (numbered BY_CHILD_CONTROLLER index) ≡ false → NonePasses is_for_child rows
 no_child index rows exact none = none_left is_for_child rows (numbered BY_CHILD_CONTROLLER index) all none
   where

@@ -30,7 +30,7 @@ fits (Some given) number = nat_eq number given
 abbrev pub is_meant : (agent controller : Option ℕ) (bits : ℕ) → Rec → Bool
 is_meant agent controller bits rec = fits agent rec.agent && fits controller rec.controller && has_bit_of bits rec.attr
 
--- the same, as the code is given it
+-- the same, in the form that the code is given
 abbrev pub is_asked : Meant → Rec → Bool
 is_asked meant rec = is_meant meant.agent meant.controller meant.bits rec
 
@@ -62,7 +62,7 @@ is_by opener rec = is_equal opener.0 opener.1 opener.2 rec
 
 -- ---- a record that may be entered
 
--- There is no equal record, and if the record has BY_DRIVER or EXCLUSIVE, no other that has.
+-- There is no equal record, and if the record has BY_DRIVER or EXCLUSIVE, no other record has one of them.
 pub record IsNew (new : Rec) (records : List Rec) : Type 0 where
   pub unequal : list_any (is_by (opener_of new)) records ≡ false
   pub holder : is_strong new ≡ true → list_any is_strong records ≡ false

@@ -20,12 +20,12 @@ most = 2 ^ 64 - 1
 
 -- ---- walks that go down
 
--- whether a walk that goes on below a number, if it has begun, is done with another
+-- whether a walk that goes on below a number, if it has begun, is done with another number
 abbrev pub is_done : Option ℕ → ℕ → Bool
 is_done None number = false
 is_done (Some above) number = nat_le above number
 
--- whether a step of the walk, which came to a number if there was one, reaches another
+-- whether a step of the walk, which came to a number if there was one, reaches another number
 abbrev pub reaches : Option ℕ → ℕ → Bool
 reaches None number = true
 reaches (Some last) number = nat_le last number
@@ -101,7 +101,7 @@ SomeFails test rows = SomePasses (λ (rec : Rec). not (test rec)) rows
 abbrev pub AllPass : (Rec → Bool) → List Row → Type 0
 AllPass test rows = NonePasses (λ (rec : Rec). not (test rec)) rows
 
--- whether a number has one of some bits, and whether that is wanted
+-- whether a number has one of some bits, or has none of them, as is wanted
 abbrev pub has_as : (bits : ℕ) (wanted : Bool) → ℕ → Bool
 has_as bits true number = has_bit_of bits number
 has_as bits false number = not (has_bit_of bits number)

@@ -127,7 +127,7 @@ pub record IsIndexed (rows : List Row) (indexes : Indexes) : Type 0 where
 
 -- ---- a change at one record
 
--- what the indexes say of other records is as before
+-- what the indexes say about other records is as before
 pub record SameOthers (stamp : ℕ) (rec : Rec) (old new : Indexes) : Type 0 where
   pub openers : (q : Opener) → tree.is_at (opener_cmp (opener_of rec)) q ≡ false → tree.get opener_cmp new.by_opener q ≡ tree.get opener_cmp old.by_opener q
   pub controllers : (q : Naming) → tree.is_at (naming_cmp (rec.controller, stamp)) q ≡ false → set.contains naming_cmp new.by_controller q ≡ set.contains naming_cmp old.by_controller q

@@ -4,7 +4,7 @@ use Rattle.interface_records.specs.Records.{Opener, is_by}
 use Rattle.interface_records.specs.declared.interface_records.Taken.{Taken}
 use Rattle.interface_records.specs.declared.open_record.Rec.{Rec}
 
--- a record right after that of an opener, and after all if there is none; in front of all, if no opener is given
+-- a record put right after that of an opener, or after all if there is none; before all, if no opener is given
 abbrev pub put_after : Option Opener → Rec → List Rec → List Rec
 put_after None new records = new ∷ records
 put_after (Some before) new [] = new ∷ []

@@ -18,12 +18,12 @@ use fw_types::OutOfMemory;
 use std::alloc::Global;
 use std::marker::Model;
 
-/// A record that was taken out, and what it takes to put it in its place again.
+/// A record that was taken out, and what is needed to put it in its place again.
 #[derive(Clone, Copy, Debug)]
 pub struct Taken {
     /// The record before it, if it was not the first.
     pub before: Option<Opener>,
-    /// Its stamp. It can be under this stamp again if no other record has come to be.
+    /// Its stamp. It can be under this stamp again if no other record has been put there since.
     pub stamp: u64,
     /// What it was.
     pub rec: Rec,
@@ -181,8 +181,8 @@ impl InterfaceRecords {
         take_from(&mut self.rows, opener)
     }
 
-    /// The openers of the records that are meant. If an agent is given, or a controller, or if few have
-    /// one of the bits, the others are not looked at.
+    /// The openers of the records that are meant. If an agent or a controller is given, or if few records have one
+    /// of the bits, the others are not looked at.
     ///
     /// # Errors
     ///
@@ -289,7 +289,7 @@ fn push_to(alloc: Global, rows: &mut Stamped, rec: Rec) -> Result<(), OutOfMemor
     Ok(())
 }
 
-/// Puts a record in its place again. If another has come to be at its stamp, all get new ones.
+/// Puts a record in its place again. If another record has been put under its stamp since, all get new ones.
 fn put_in(alloc: Global, rows: &mut Stamped, taken: &Taken) -> Result<(), OutOfMemory>
     requires { IsNew taken.now.rec (records_in rows.old) }
     ensures ok { OnOk result (records_in rows.new ≡ put_again taken.now (records_in rows.old)) }
@@ -315,7 +315,8 @@ fn put_among(records: &mut Vec<Rec>, taken: &Taken) -> Result<(), OutOfMemory>
     Ok(())
 }
 
-/// The place right after the record of an opener: 0 if none is given, and after all if there is no such record.
+/// The place right after the record of an opener: 0 if no opener is given, and after all if there is no such
+/// record.
 fn place_after(records: &[Rec], before: Option<Opener>) -> usize
     ensures within { result ≤ length records.now }
     ensures place { (new : RecValue) → insert records.now result new ≡ put_after before new records.now }

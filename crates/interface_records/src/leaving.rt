@@ -1,4 +1,4 @@
-//! Records that go.
+//! Records that are taken out.
 ghost use Rattle.std.specs.Prelude.{◌≡◌, ℕ, false, None, Some, IfSome, MatchOption, filter, not, nat_eq, ◌&&◌, option_map, if◌then◌else◌};
 ghost use Rattle.std.specs.BTreeMap.{is_at};
 ghost use Rattle.std.specs.List.{list_any};
@@ -65,8 +65,8 @@ fn drop_if<T: Test>(rows: &mut Stamped, stamp: u64, rec: &Rec, test: &T)
     rows.remove(stamp);
 }
 
-/// Takes out the last record if it is chosen; the last under a stamp below another, if one is given. Answers
-/// its stamp, if there is one.
+/// Takes out the last record if it is chosen; or the last record under a stamp below another, if
+/// one is given. Answers its stamp, if there is one.
 fn drop_last<T: Test>(rows: &mut Stamped, above: Option<u64>, test: &T) -> Option<u64>
     ensures gone { (stamp : ℕ) → at rows.new stamp
         ≡ (if not (is_done above stamp) && reaches result stamp then left (T.chosen test.now) (at rows.old stamp) else at rows.old stamp) }

@@ -166,7 +166,7 @@ impl Stamped {
         Ok(found)
     }
 
-    /// The last row; the last under a stamp below another, if one is given.
+    /// The last row; or the last row under a stamp below another, if one is given.
     pub fn last_below(&self, above: Option<u64>) -> Option<(u64, Rec)>
         ensures { MatchOption result (NoneBelow above self.now) (λ row. IsLastBelow above row self.now) }
     {

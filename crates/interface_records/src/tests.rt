@@ -113,7 +113,7 @@ fn there_and_back(
     Ok(())
 }
 
-/// What is meant by agent, by controller and by bits goes, and comes back.
+/// What is meant by agent, by controller and by bits is taken out, and comes back.
 #[test]
 fn meant_go_and_come_back(rt: HostRuntime) -> Result<(), Fail> {
     let mut records = InterfaceRecords::new(rt.alloc());
@@ -164,7 +164,8 @@ fn named_and_children(rt: HostRuntime) -> Result<(), Fail> {
     Ok(())
 }
 
-/// The openers of the records that are meant, and of those that name a handle; the chosen go.
+/// The openers of the records that are meant, and of those that name a handle; the chosen records
+/// are dropped.
 #[test]
 fn listed_and_dropped(rt: HostRuntime) -> Result<(), Fail> {
     let mut records = InterfaceRecords::new(rt.alloc());
@@ -187,7 +188,7 @@ fn listed_and_dropped(rt: HostRuntime) -> Result<(), Fail> {
     Ok(())
 }
 
-/// If another record came to be under a record's stamp, all get new stamps.
+/// If another record has been put under a record's stamp, all get new stamps.
 #[test]
 fn put_where_another_came_to_be(rt: HostRuntime) -> Result<(), Fail> {
     let mut records = InterfaceRecords::new(rt.alloc());

@@ -27,7 +27,7 @@ functions-board size = functions-of (range_with_len 0 size)
 apart : (number other : ℕ) → number < other → is_at (function number).location (function other).location ≡ false
 apart number other less = grind (arith, nat_tests)
 
--- where the next function goes none is
+-- there is no function at the location of the next one
 free_by : (number : ℕ) (found : Option ℕ) → position (λ (f : Function). is_at f.location (function number).location) (map function (range_with_len 0 number)) ≡ found → is_some found ≡ false
 free_by number None is = refl
 free_by number (Some place) is =
@@ -56,11 +56,11 @@ pub next_passes : (number : ℕ) → number < 256 → line_fault (board_lines nu
 unfolding line_fault
 next_passes number few = rw (room number few, on_bus number few, free number) refl
 
--- the root bridge alone is a board
+-- the root bridge by itself is a board
 pub root_passes : line_fault [] (Root 0 0) ≡ None
 unfolding line_fault
 root_passes = refl
 
--- one line more
+-- one more line
 pub board_lines-more : (number : ℕ) → board_lines number ++ function_line number ∷ [] ≡ board_lines (number + 1)
 board_lines-more number = ap (λ (lines : List BoardLine). Root 0 0 ∷ lines) (sym (map-range_with_len_more function_line 0 number number (omega arith)))

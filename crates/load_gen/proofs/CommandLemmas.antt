@@ -6,7 +6,7 @@ use Rattle.fw_types.specs.Commands.{has_legal_budgets}
 use Rattle.fw_types.specs.declared.command.Command.{Command}
 use Rattle.load_gen.specs.GeneratedLoad.{commands, connection_lines, load_line}
 
--- one connection more
+-- one more connection
 pub connections-more : (first count : ℕ) → flat_map (λ (number : ℕ). connection_lines) (range_with_len first (suc count)) ≡ flat_map (λ (number : ℕ). connection_lines) (range_with_len first count) ++ connection_lines
 connections-more first zero = refl
 connections-more first (suc count) = ap (λ (later : List Command). connection_lines ++ later) (connections-more (first + 1) count)

@@ -18,8 +18,8 @@ pub const LARGEST_LOAD: u32 = 256;
 /// The load of a size from 1 to 256: a script, and the shelf with its file.
 ///
 /// The board of the script is `root 0 0` and so many functions on bus 0, 8 to a device. Its commands
-/// are so many times `load s.efi`, and then so many times `connect 3 one none` and `disconnect 3 0
-/// 0`. The shelf has the image of the smallest driver under the name `s.efi`, and never fails.
+/// are `load s.efi` so many times, and then `connect 3 one none` and `disconnect 3 0 0` so many
+/// times. The shelf has the image of the smallest driver under the name `s.efi`, and never fails.
 ///
 /// # Errors
 ///
@@ -29,7 +29,7 @@ pub fn generate(alloc: Global, size: u32) -> Result<(Script, MemShelf), OutOfMem
     requires most { size ≤ LARGEST_LOAD }
     ensures script { IfOk result (λ load. load.0 ≡ script size) }
     ensures shelf { IfOk result (λ load. load.1 ≡ shelf) }
-    // What a machine asks of a script.
+    // What a machine requires of a script.
     ensures board { IfOk result (λ load. board_fault load.0.board ≡ None) }
     ensures budgets { IfOk result (λ load. list_all has_legal_budgets load.0.commands ≡ true) }
     ensures count { IfOk result (λ load. length load.0.commands ≡ 3 * size) }

@@ -22,7 +22,7 @@ use Rattle.record_table.proofs.RangeLemmas.{three_parts}
 
 -- ---- the verdict
 
--- neither answer of a rule lets an open in
+-- both answers of a rule keep an open out
 abbrev keeps_out : Rule → Bool
 keeps_out rule = not (may_enter rule.own) && not (may_enter rule.other)
 
@@ -67,12 +67,12 @@ free_by true records agent controller attr enters none =
     any_either is_strong (is_equal agent controller attr) records (by_holder (find is_strong records) records agent attr refl enters) none
 free_by false records agent controller attr enters none = none
 
--- where an open may be entered and no record is equal, none of the interface's clashes with it
+-- if an open may be entered and no record is equal, none of the interface's records clashes with it
 free : (records : List Rec) (agent controller attr : ℕ) → may_enter (judge records agent controller attr) ≡ true → list_any (is_equal agent controller attr) records ≡ false
     → list_any (λ (rec : Rec). (has_bit_of HOLDING_BITS attr && is_strong rec) || is_equal agent controller attr rec) records ≡ false
 free records agent controller attr enters none = free_by (has_bit_of HOLDING_BITS attr) records agent controller attr enters none
 
--- where an open may be entered and no record is equal, its record is new
+-- if an open may be entered and no record is equal, its record is new
 pub new_record : (handle : ℕ) (guid : List ℕ) (agent controller attr : ℕ) (rec : Rec) (entries after : List KeyedRecord) → rec ≡ first agent controller attr → after ≡ entries
     → may_enter (judge (records_of entries handle guid) agent controller attr) ≡ true → list_any (is_equal agent controller attr) (records_of entries handle guid) ≡ false
     → IsNew (record { handle = handle; guid = guid; rec = rec }) after

@@ -130,7 +130,7 @@ module _ (picked : KeyedRecord → Bool) (entries : List KeyedRecord) (from : In
   fewer_unlisted : (to_go : List Going) (one : KeyedRecord) → is_unlisted picked to_go one ≡ true → picked one ≡ true
   fewer_unlisted to_go one is = (and_parts (picked one) (not (are_listed to_go one)) is).0
 
-  -- where no more are to be found
+  -- if no more are to be found
   pub all_listed : (to_go : List Going) → IsAt (is_unlisted picked to_go) at entries → list_any (passes_from picked from) entries ≡ false → list_any (is_unlisted picked to_go) entries ≡ false
   all_listed to_go so_far none =
       none_from_here (is_unlisted picked to_go) from entries (cursor_at (is_unlisted picked to_go) from entries at here so_far) (weaker_found picked (is_unlisted picked to_go) (fewer_unlisted to_go) from entries None none)

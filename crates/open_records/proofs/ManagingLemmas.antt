@@ -56,7 +56,7 @@ none_managing (rec ∷ records) none = elim (cases_Bool (is_strong rec)) [
   | inr weak ↦ let rest : length (filter is_strong records) ≡ 0 = rw weak at none in rw (weak_agent rec weak) (none_managing records rest)
 ]
 
--- where at most one has BY_DRIVER or EXCLUSIVE, it alone may manage
+-- if at most one record has BY_DRIVER or EXCLUSIVE, only that one may manage
 pub managing_is : (records : List Rec) → length (filter is_strong records) ≤ 1 → manager_numbers (option_to_list (find is_strong records)) ≡ manager_numbers records
 managing_is records one = ap (map (λ (rec : Rec). rec.agent)) (by_filter records one)
   where
@@ -79,7 +79,7 @@ found_none (rec ∷ records) none = elim (cases_Bool (is_strong rec)) [
   | inr weak ↦ let rest : length (filter is_strong records) ≡ 0 = rw weak at none in rw (weak_agent rec weak) (found_none records rest)
 ]
 
--- and it alone may be found
+-- and only that one may be found
 pub manager_is : (records : List Rec) → length (filter is_strong records) ≤ 1 → find is_managing (option_to_list (find is_strong records)) ≡ find is_managing records
 manager_is [] one = refl
 manager_is (rec ∷ records) one = elim (cases_Bool (is_strong rec)) [
@@ -121,7 +121,7 @@ weak_meant agent controller rec weak = rw (weak_agent rec weak) (by_bool (fits a
     by_bool true false = refl
     by_bool false b = refl
 
--- ---- the BY_CHILD_CONTROLLER records alone
+-- ---- only the BY_CHILD_CONTROLLER records
 
 pub of_children : (agent : Option ℕ) (records : List Rec) → child_numbers agent (filter is_for_child records) ≡ child_numbers agent records
 of_children agent records =

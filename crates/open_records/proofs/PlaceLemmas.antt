@@ -129,7 +129,7 @@ module _ (test : KeyedRecord → Bool) (entries : List KeyedRecord) (rising : ri
       lt_le_trans_to : (x : KeyedRecord) (from interface : Interface) → is_before from.0 from.1 x ≡ true → is_lt (interface_cmp interface from) ≡ false → is_before interface.0 interface.1 x ≡ true
       lt_le_trans_to x from interface before low = lt_le (interface_of x) from interface before low
 
-  -- with the records of one interface more
+  -- with the records of one more interface
   with_mine : (interface : Interface) → placed_by test (upto interface ++ mine interface) ≡ placed_by test (upto interface) ++ places_on interface.0 interface.1 test (records_of entries interface.0 interface.1)
   with_mine interface =
       let none : records_of (upto interface) interface.0 interface.1 ≡ [] =
@@ -205,12 +205,12 @@ found_next test entries rising from interface at next found new list is named fo
 pub length-records_le : (entries : List KeyedRecord) (handle : ℕ) (guid : List ℕ) → length (records_of entries handle guid) ≤ length entries
 length-records_le entries handle guid = omega (arith, length-map (filter (is_of handle guid) entries) (λ (one : KeyedRecord). one.rec), length-filter-le (is_of handle guid) entries)
 
--- where none passes, there are no places
+-- if none passes, there are no places
 pub no_places : (test : Rec → Bool) (records : List Rec) (place : ℕ) → list_any test records ≡ false → with_places_from place test records ≡ []
 no_places test [] place none = refl
 no_places test (rec ∷ records) place none = let parts = or_parts (test rec) (list_any test records) none in rw parts.0 (no_places test records (place + 1) parts.1)
 
--- what a sweep lists is what goes with the records that name the handle
+-- what a sweep lists is the records that name the handle, each with its place
 naming_after_is : (name : ℕ) (before xs : List KeyedRecord) → naming_after before name xs ≡ placed_after before (λ (one : KeyedRecord). is_named name one.rec) xs
 naming_after_is name before [] = refl
 naming_after_is name before (x ∷ xs) =

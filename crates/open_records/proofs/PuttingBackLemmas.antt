@@ -1,4 +1,4 @@
--- Records that went are put back where they were.
+-- Records that were removed are put back where they were.
 use Rattle.std.proofs.Common.{◌≡◌, ◌≤◌, ◌+◌, ℕ, Bool, true, false, not, ◌&&◌, ◌||◌, List, [], ◌∷◌, ◌++◌, length, filter, map, refl, sym, subst, ap, ◌∙◌, append_assoc, length-append, arith, inl, inr}
 use Rattle.std.specs.List.{list_any}
 use Rattle.std.proofs.lemmas.Bool.{and_from, and_parts, cases_Bool, not-true, not_from_false, or_parts, or_from}
@@ -29,7 +29,7 @@ use Rattle.record_table.proofs.RangeLemmas.{three_parts}
 use Rattle.record_table.proofs.TableLemmas.{other_same}
 use Rattle.record_table.proofs.WithLemmas.{is_other, rising_with, with_elsewhere, with_here}
 
--- what stands apart stands apart without one of it, and all others from that one
+-- if no two records of a list pass a test, nor do any two once one record is left out
 no_pair-without : (test : KeyedRecord → KeyedRecord → Bool) (front : List KeyedRecord) (new : KeyedRecord) (back : List KeyedRecord) → no_pair test (front ++ new ∷ back) ≡ true → no_pair test (front ++ back) ≡ true
 no_pair-without test [] new back none = (and_parts (not (list_any (test new) back)) (no_pair test back) none).1
 no_pair-without test (one ∷ front) new back none =
@@ -61,7 +61,8 @@ module _ (new : KeyedRecord) (entries whole : List KeyedRecord) (parts : Between
   one_more : length whole ≡ length entries + 1
   one_more = omega (arith, ap length parts.was, ap length parts.is, length-append parts.front parts.back, length-append parts.front (new ∷ parts.back))
 
-  -- what stands apart with it stood apart without it, and apart from it
+  -- if no two records exclude each other with this one, none did without it, and this one excludes
+  -- none
   apart_without : stand_apart whole ≡ true → stand_apart entries ≡ true
   apart_without apart = ap stand_apart parts.was ∙ no_pair-without clash parts.front new parts.back (ap stand_apart (sym parts.is) ∙ apart)
 
@@ -184,7 +185,7 @@ fewer_all : (gone : List Gone) (entries : List KeyedRecord) → rise entries ≡
 fewer_all [] entries rising fit = omega arith
 fewer_all (one ∷ later) entries rising fit = omega (arith, fewer_all later entries rising fit.0, fewer_put one (put_all later entries) (all_rising later entries rising) fit.1)
 
--- the last of a list is put back first
+-- the last one of a list is put back first
 pub put_more : (gone : List Gone) (last : Gone) (entries : List KeyedRecord) → put_all (gone ++ last ∷ []) entries ≡ put_all gone (put_one last entries)
 put_more [] last entries = refl
 put_more (one ∷ gone) last entries = ap (put_one one) (put_more gone last entries)

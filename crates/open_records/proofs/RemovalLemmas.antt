@@ -1,4 +1,4 @@
--- Records that go: what stays is sound.
+-- Records that are removed: what stays is sound.
 use Rattle.std.proofs.Common.{◌≡◌, ℕ, Bool, not, ◌&&◌, nat_eq, List, Result, Ok, Err, OnOk, OnErr, filter, arith}
 use Rattle.open_records.specs.OpenRecords.{RecordTable, IsSound, clash, is_kept}
 use Rattle.record_table.specs.Keyed.{falls, is_of}
@@ -25,7 +25,7 @@ cut_on_sound handle test table sound = filter_sound (λ (one : KeyedRecord). not
 pub swept_sound : (name : ℕ) (table : RecordTable) → IsSound table → IsSound (swept name table)
 swept_sound name table sound = filter_sound (λ (one : KeyedRecord). not (is_named name one.rec)) table sound
 
--- what is left is sound, whether records went or not
+-- what is left is sound, whether records were removed or not
 pub taken_sound : {X E : Type 0} (result : Result X E) (test : KeyedRecord → Bool) (left : List KeyedRecord) (table : RecordTable) → OnOk result (left ≡ filter (λ (one : KeyedRecord). not (test one)) table.entries) → OnErr result (left ≡ table.entries) → IsSound table
     → IsSound (record table { entries = left })
 taken_sound (Ok gone) test left table went same sound =

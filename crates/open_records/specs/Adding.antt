@@ -13,7 +13,8 @@ use Rattle.open_records.specs.declared.fault.RecFault.TheVariants.{Full, OutOfMe
 abbrev pub first : (agent controller attr : ℕ) → Rec
 first agent controller attr = record { agent = agent; controller = controller; attr = attr; count = 1 }
 
--- the records of one interface with one more open: one more record at the end, or one that counts it
+-- the records of one interface with one more open: one more record at the end, or one more in the
+-- count of an equal record
 abbrev pub entered : (agent controller attr : ℕ) → List Rec → List Rec
 entered agent controller attr records =
     if list_any (is_equal agent controller attr) records then map (raised_where (is_equal agent controller attr)) records
@@ -30,13 +31,13 @@ abbrev pub added : ℕ → List ℕ → (agent controller attr : ℕ) → Record
 added handle guid agent controller attr table =
     record table { entries = with_open handle guid agent controller attr table.entries }
 
--- whether an open would be a record more than there may be
+-- whether an open would need a record when there are already as many as there may be
 abbrev pub is_full : ℕ → List ℕ → (agent controller attr : ℕ) → RecordTable → Bool
 is_full handle guid agent controller attr table =
     not (list_any (is_equal agent controller attr) (records_of table.entries handle guid))
     && nat_le table.limit (length table.entries)
 
--- a call gives this answer, except if it is out of memory
+-- a call gives this answer, unless it runs out of memory
 abbrev pub Gives : Result (Unit {0}) RecFault → (full : Bool) → Type 0
 Gives (Ok done) full = full ≡ false
 Gives (Err Full) full = full ≡ true

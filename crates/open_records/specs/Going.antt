@@ -10,7 +10,7 @@ use Rattle.open_records.specs.declared.undoing.Choice.{Choice}
 
 -- ---- one after another
 
--- a record that goes: its interface, and its opener
+-- a record that is taken out: its interface, and its opener
 abbrev pub Going : Type 0
 Going = ℕ × List ℕ × Opener
 
@@ -18,7 +18,8 @@ Going = ℕ × List ℕ × Opener
 abbrev pub going_on : Interface → List Opener → List Going
 going_on interface openers = map (λ (opener : Opener). (interface.0, interface.1, opener)) openers
 
--- whether a record is the one that goes: of the same interface, with the same agent, controller and attribute
+-- whether a record is the one that is taken out: of the same interface, with the same agent, controller and
+-- attribute
 abbrev pub is_listed : Going → KeyedRecord → Bool
 is_listed going one = is_open going.0 going.1 going.2.0 going.2.1 going.2.2 one
 
@@ -34,7 +35,8 @@ without_listed to_go entries = filter (λ (one : KeyedRecord). not (are_listed t
 abbrev pub is_unlisted : (KeyedRecord → Bool) → List Going → KeyedRecord → Bool
 is_unlisted test to_go one = test one && not (are_listed to_go one)
 
--- Of an interface's records those that pass a test are listed too, and no others.
+-- The list contains the records of an interface that pass a test, besides those already listed, and no
+-- others.
 pub record ListsMore (interface : Interface) (test : KeyedRecord → Bool) (entries : List KeyedRecord) (old new : List Going) : Type 0 where
   pub kept : (one : KeyedRecord) → are_listed old one ≡ true → are_listed new one ≡ true
   pub only : (one : KeyedRecord) → are_listed new one ≡ true → (are_listed old one || (is_on interface one && test one)) ≡ true

@@ -28,7 +28,7 @@ NoEqualRecords =
 
 -- ---- what stays sound
 
--- after an open that may be entered and is not one too many
+-- after an open that may be entered, if there is room for it
 abbrev pub AddingKeeps : Type 0
 AddingKeeps =
     (table : RecordTable) → IsSound table → (handle : ℕ) (guid : List ℕ) (agent controller attr : ℕ)
@@ -108,7 +108,7 @@ SweptEverywhere =
 
 -- ---- what is removed
 
--- after a cut of whatever agent and controller, with any of the six bits, an interface has no record
+-- after a cut for any agent and controller, with any of the six bits, an interface has no record
 abbrev pub AllCut : Type 0
 AllCut =
     (table : RecordTable) → IsSound table → (handle : ℕ) (guid : List ℕ)

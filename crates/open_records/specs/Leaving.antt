@@ -1,4 +1,4 @@
--- Records that go (UEFI 2.8, 7.3: CloseProtocol, and the handles that go).
+-- Records that are removed (UEFI 2.8, 7.3: CloseProtocol, and the handles that are removed).
 use Rattle.std.specs.Prelude.{ℕ, ◌+◌, Bool, ◌&&◌, not, nat_eq, List, [], ◌∷◌, ◌++◌, length, filter, if◌then◌else◌}
 pub use Rattle.interface_records.specs.Records.{fits, is_meant, is_named}
 use Rattle.open_records.specs.OpenRecords.{RecordTable}
@@ -24,18 +24,18 @@ without handle guid test entries = filter (λ (one : KeyedRecord). not (is_of ha
 abbrev pub cut : ℕ → List ℕ → (Rec → Bool) → RecordTable → RecordTable
 cut handle guid test table = record table { entries = without handle guid test table.entries }
 
--- without the records of a handle that pass a test, on whatever interface
+-- without the records of a handle that pass a test, on any interface
 abbrev pub without_on : ℕ → (Rec → Bool) → List KeyedRecord → List KeyedRecord
 without_on handle test entries = filter (λ (one : KeyedRecord). not (nat_eq one.handle handle && test one.rec)) entries
 
--- the table without the records of a handle that pass a test, on whatever interface
+-- the table without the records of a handle that pass a test, on any interface
 abbrev pub cut_on : ℕ → (Rec → Bool) → RecordTable → RecordTable
 cut_on handle test table = record table { entries = without_on handle test table.entries }
 
--- ---- a handle that goes
+-- ---- a handle that is removed
 
 -- the records that name a handle, each with its interface and its place in the list of that interface,
--- if these records come after others
+-- if the records come after these earlier ones
 abbrev pub naming_after : List KeyedRecord → ℕ → List KeyedRecord → List (ℕ × List ℕ × ℕ × Rec)
 naming_after before name [] = []
 naming_after before name (one ∷ entries) =

@@ -13,7 +13,7 @@ use Rattle.record_table.specs.declared.open_record.KeyedRecord.{KeyedRecord}
 abbrev pub Placed : Type 0
 Placed = ℕ × List ℕ × ℕ × Rec
 
--- the records that pass a test, each with its place, if they come after others
+-- the records that pass a test, each with its place, if the list comes after these earlier ones
 abbrev pub placed_after : (before : List KeyedRecord) → (KeyedRecord → Bool) → List KeyedRecord → List Placed
 placed_after before test [] = []
 placed_after before test (one ∷ entries) =
@@ -33,7 +33,8 @@ places_from place handle guid test records =
 abbrev pub places_on : ℕ → List ℕ → (KeyedRecord → Bool) → List Rec → List Placed
 places_on handle guid test records = places_from 0 handle guid test records
 
--- those records were found that pass a test and come before an interface that has a record, or all if there is none
+-- the records that were found are those that pass a test and come before an interface, which has a record; or all
+-- that pass it if no interface is given
 abbrev pub HasFound : (KeyedRecord → Bool) → Option Interface → List Placed → List KeyedRecord → Type 0
 HasFound test None found entries = found ≡ placed_by test entries
 HasFound test (Some interface) found entries =

@@ -1,4 +1,4 @@
--- Records that went, put back in their places; and the count of a record, set back.
+-- Records that were removed, put back in their places; and the count of a record, set back.
 use Rattle.std.specs.Prelude.{◌≡◌, ℕ, Bool, ◌&&◌, ◌||◌, not, nat_eq, List, [], ◌∷◌, find, filter, map, None, if◌then◌else◌}
 use Rattle.parted_records.specs.Parting.{IsFit, lasting}
 pub use Rattle.record_table.specs.Changing.{count_in, counted, is_open, put_taken, with_interface}
@@ -13,7 +13,7 @@ use Rattle.open_records.specs.declared.undoing.Gone.{Gone}
 use Rattle.open_records.specs.declared.undoing.Gone.TheVariants.{One, Weak}
 use Rattle.record_table.specs.declared.open_record.KeyedRecord.{KeyedRecord}
 
--- ---- records that go
+-- ---- records that are removed
 
 -- whether a choice picks a record
 abbrev pub picks : Choice → KeyedRecord → Bool
@@ -28,13 +28,13 @@ without_passing test table = record table { entries = filter (λ (one : KeyedRec
 
 -- ---- records that are put back
 
--- what went, in its place again. All records of an interface of which the weak ones went take the place of those that it
--- has by then
+-- What was removed is put in its place again. If it was the weak records of an interface, all the records that the
+-- interface had take the place of those that it has by then.
 abbrev pub put_one : Gone → List KeyedRecord → List KeyedRecord
 put_one (One handle guid removed) entries = put_taken handle guid removed.taken entries
 put_one (Weak handle guid whole) entries = with_interface handle guid whole entries
 
--- what went one after another, in its place again; the last one first
+-- what was removed one after another, in its place again; the last one first
 abbrev pub put_all : List Gone → List KeyedRecord → List KeyedRecord
 put_all [] entries = entries
 put_all (gone ∷ later) entries = put_one gone (put_all later entries)
@@ -42,7 +42,7 @@ put_all (gone ∷ later) entries = put_one gone (put_all later entries)
 abbrev pub put_back : List Gone → RecordTable → RecordTable
 put_back gone table = record table { entries = put_all gone table.entries }
 
--- what went fits: it was taken out of an interface that has these records
+-- what was removed fits: it was taken out of an interface that has these records
 abbrev pub IsFitting : Gone → List KeyedRecord → Type 0
 IsFitting (One handle guid removed) entries = IsFit removed (records_of entries handle guid)
 IsFitting (Weak handle guid whole) entries = records_of entries handle guid ≡ lasting whole
@@ -65,7 +65,7 @@ count_set handle guid agent controller attr count table =
     then without_passing (is_open handle guid agent controller attr) table
     else record table { entries = map (counted (is_open handle guid agent controller attr) count) table.entries }
 
--- to set the count of before takes an open back
+-- setting the earlier count takes an open back
 abbrev pub CountingIsUndoing : Type 0
 CountingIsUndoing =
     (table : RecordTable) → IsSound table → (handle : ℕ) (guid : List ℕ) (agent controller attr : ℕ)

@@ -1,4 +1,4 @@
--- What the records of an interface say to one more open (UEFI 2.8, 7.3: OpenProtocol, 'Attributes').
+-- What the records of an interface say about one more open (UEFI 2.8, 7.3: OpenProtocol, 'Attributes').
 use Rattle.std.specs.Prelude.{ℕ, Bool, true, false, ◌&&◌, nat_eq, List, [], ◌∷◌, Option, Some, None, find, if◌then◌else◌}
 use Rattle.std.specs.List.{list_any}
 use Rattle.fw_types.specs.Attr.{has_bit_of}
@@ -48,8 +48,8 @@ abbrev pub against : Option Rec → ℕ → ℕ → Verdict
 against None agent attr = Add
 against (Some holder) agent attr = says (find (applies attr holder.attr) (rules holder.agent)) (nat_eq holder.agent agent)
 
--- what the records of an interface say to an open: one with BY_DRIVER or EXCLUSIVE goes by the rules; any other
--- is counted if there is an equal record, and else is one more record
+-- what the records of an interface say about an open: one with BY_DRIVER or EXCLUSIVE goes by the rules; any
+-- other is counted if there is an equal record, and otherwise is one more record
 abbrev pub judge : List Rec → (agent controller attr : ℕ) → Verdict
 judge records agent controller attr =
     if has_bit_of HOLDING_BITS attr then against (find is_strong records) agent attr

@@ -11,7 +11,8 @@ use fw_types::{Attr, Guid, Handle};
 use interface_records::Rec;
 use record_table::{KeyedRecord, Table};
 
-/// Puts a record after those of an interface, or counts one more open in the record that is equal to it.
+/// Puts a record after those of an interface, or counts one more open in a record that is equal to
+/// it.
 pub fn enter(
     table: &mut Table,
     limit: u32,

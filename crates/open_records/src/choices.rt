@@ -73,7 +73,7 @@ fn are_parties_live(db: &Db, one: &KeyedRecord) -> bool
     db.is_live(one.rec.agent) && is_none_or_live(one.rec.controller, db)
 }
 
-/// Whether a controller is none, or is live.
+/// Whether an open is for no controller, or for a live one.
 fn is_none_or_live(controller: u64, db: &Db) -> bool
     ensures { result ≡ is_none_or_live controller db.now }
 {

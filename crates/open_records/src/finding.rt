@@ -1,5 +1,5 @@
-//! The lists of records that go, each record with its place. They walk over all records of an interface of
-//! which one goes.
+//! The lists of records that are removed, each record with its place. Making them goes over all records of
+//! an interface of which one is removed.
 ghost use Rattle.std.specs.Prelude.{◌≡◌, ◌<◌, ◌^◌, ◌++◌, length, true, IfOk, OnOk};
 ghost use Rattle.open_records.specs.Leaving.{is_meant, with_places};
 ghost use Rattle.record_table.specs.Keyed.{records_of, rise};
@@ -13,8 +13,8 @@ use interface_records::{Meant, Rec};
 use record_table::{KeyedRecord, Table, Test};
 use std::alloc::Global;
 
-/// A record that goes: the handle and the GUID of its interface, the place, from 0, that it has among the
-/// records of that interface, and what it is.
+/// A record that is removed: the handle and the GUID of its interface, the place, from 0, that it has
+/// among the records of that interface, and what it is.
 pub type Placed = (Handle, Guid, u32, Rec);
 
 /// Those of an interface's records that are meant, each with its place.
@@ -36,7 +36,7 @@ pub fn meant_among(
     Ok(found)
 }
 
-/// The same, of an interface's records as they stand.
+/// The same, for an interface's records as they are in the table.
 pub fn meant_in(
     alloc: Global,
     table: &Table,
@@ -80,7 +80,7 @@ fn push_placed(
     Ok(())
 }
 
-/// The same, of the interface's records as they stand.
+/// The same, for the interface's records as they are in the table.
 fn push_listed(
     found: &mut Vec<Placed>,
     table: &Table,

@@ -31,16 +31,16 @@ pub fn interfaces_change()
     ensures swept { SweptEverywhere }
 {}
 
-/// After a cut of all its records an interface has none, and after a sweep no record names the handle.
-/// What a sweep reports of one interface is what it removes of its list, each record with its place there.
+/// After a cut of all its records an interface has none, and after a sweep no record names the handle. For
+/// one interface a sweep reports what it removes of the interface's list, each record with its place there.
 pub fn records_go()
     ensures cut { AllCut }
     ensures swept { NoneNamed }
     ensures places { SweptPlaces }
 {}
 
-/// An open is taken back by setting the count of before. Of records that are taken out `Records::take` says
-/// itself that they are put back.
+/// An open is taken back by setting the earlier count. For records that are taken out, the contract of
+/// `Records::take` itself says that they are put back.
 pub fn changes_are_undone()
     ensures counting { CountingIsUndoing }
 {}

@@ -14,7 +14,7 @@ use interface_records::Meant;
 use record_table::Table;
 use std::alloc::Global;
 
-/// Takes out a record, if it is there, for which there is room in a list of what went.
+/// Takes out a record, if it is there. The list of what was removed has room for it.
 fn take_one(table: &mut Table, to_go: &Going, gone: &mut Vec<Gone>)
     requires room { vec_len gone.old < vec_capacity gone.old }
     requires fit { AreFitting gone.old.items table.old }
@@ -31,7 +31,7 @@ fn take_one(table: &mut Table, to_go: &Going, gone: &mut Vec<Gone>)
     }
 }
 
-/// Takes out some records one after another, for which there is room in a list of what went.
+/// Takes out some records one after another. The list of what was removed has room for them.
 fn take_each(table: &mut Table, to_go: &[Going], gone: &mut Vec<Gone>)
     requires room { vec_len gone.old + length to_go.now ≤ vec_capacity gone.old }
     requires fit { AreFitting gone.old.items table.old }
@@ -56,8 +56,8 @@ fn take_listed(alloc: Global, table: &mut Table, to_go: &[Going]) -> Result<Vec<
     Ok(gone)
 }
 
-/// Takes out the weak records of an interface as one, if that can be, and answers whether it can. There is room for
-/// them in a list of what went.
+/// Takes out the weak records of an interface as one, if possible, and answers whether it did. The list of what was
+/// removed has room for them.
 fn take_as_one(table: &mut Table, handle: Handle, guid: Guid, gone: &mut Vec<Gone>) -> bool
     requires rising { rise table.old ≡ true }
     requires room { vec_len gone.old < vec_capacity gone.old }
@@ -76,7 +76,7 @@ fn take_as_one(table: &mut Table, handle: Handle, guid: Guid, gone: &mut Vec<Gon
     }
 }
 
-/// Takes out the weak records of an interface: as one, if that can be, and otherwise one after another.
+/// Takes out the weak records of an interface: as one, if possible, and otherwise one after another.
 fn take_weak(
     alloc: Global,
     table: &mut Table,
@@ -103,8 +103,8 @@ fn take_weak(
     take_listed(alloc, table, to_go.as_slice())
 }
 
-/// Takes out the records that a choice picks. If they are the weak ones of an interface, and there are such, they can
-/// go as one.
+/// Takes out the records that a choice picks. If they are the weak ones of an interface, and there are any, they can
+/// be taken out as one.
 pub fn take_picked(
     alloc: Global,
     table: &mut Table,

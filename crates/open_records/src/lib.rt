@@ -3,11 +3,11 @@
 //! drivers and for exclusive opens.
 //!
 //! A contract sees `Records` as the record `RecordTable`: all records in one list, by handle, then by GUID,
-//! then in order of their making, and how many records there may be. The records of one interface are
-//! those of the list that are of it. `judge` says whether one more open is entered, and if it has to wait,
+//! then in order of their making, and how many records there may be. The records of one interface are those
+//! in the list that belong to it. `judge` says whether one more open is entered, and if it has to wait,
 //! which driver has to be disconnected first.
 //!
-//! All records are in a table (`record_table`), in which each interface has those of its own as one value.
+//! All records are in a table (`record_table`), which has the records of each interface as one value.
 #![tactic(auto)]
 
 mod adding;

@@ -13,7 +13,7 @@ use interface_records::{Meant, Opener};
 use record_table::Table;
 use std::alloc::Global;
 
-/// A record that goes: the handle and the GUID of its interface, and its opener, which no other record there has.
+/// A record that is removed: the handle and the GUID of its interface, and its opener, which no other record there has.
 pub type Going = (Handle, Guid, Opener);
 
 /// Puts records of an interface after others, by their openers.
@@ -102,7 +102,8 @@ pub fn going_in(alloc: Global, table: &Table, choice: &Choice) -> Result<Vec<Goi
     Ok(to_go)
 }
 
-/// Makes ready for a choice of records that name a handle: interfaces that are named for it without need are forgotten.
+/// Prepares for a choice of records that name a handle: interfaces that are listed under the handle for no reason are
+/// forgotten.
 pub fn make_ready(table: &mut Table, choice: &Choice)
     ensures { table.new ≡ table.old }
 {

@@ -33,8 +33,8 @@ use std::mem;
 /// of its text form, then in order of their making.
 ///
 /// An interface has at most one record with BY_DRIVER or EXCLUSIVE, and no two records of the same agent,
-/// controller and attribute. The caller sees to it that the interface is installed and that the agent
-/// and the controller are live.
+/// controller and attribute. The caller makes sure that the interface is installed and that the agent and the
+/// controller are live.
 #[derive(Drop)]
 pub struct Records {
     alloc: Global,
@@ -71,10 +71,10 @@ impl Records {
         }
     }
 
-    /// Enters an open of an interface (UEFI 2.8, 7.3: OpenProtocol). If the interface has a record of the
-    /// same agent, controller and attribute, its count rises by one, and stays at 4,294,967,295. Else a
-    /// record with count 1 becomes the last of the interface's records. `controller` is 0 if the open is
-    /// for none. The verdict of `judged` on this open must be `Add` or `Count`.
+    /// Enters an open of an interface (UEFI 2.8, 7.3: OpenProtocol). If the interface has a record of the same
+    /// agent, controller and attribute, its count rises by one, and stays at 4,294,967,295. Otherwise a record
+    /// with count 1 becomes the last of the interface's records. `controller` is 0 if the open is for none. The
+    /// verdict of `judged` on this open must be `Add` or `Count`.
     ///
     /// # Errors
     ///
@@ -161,8 +161,8 @@ impl Records {
     }
 
     /// Takes out the records that are chosen, and answers them. `put_back` puts them back. If they are those of an
-    /// interface with BY_HANDLE_PROTOCOL, GET_PROTOCOL or TEST_PROTOCOL, they can go and come back as one value,
-    /// however many they are.
+    /// interface with BY_HANDLE_PROTOCOL, GET_PROTOCOL or TEST_PROTOCOL, they can be taken out and put back as one
+    /// value, however many they are.
     ///
     /// # Errors
     ///
@@ -205,8 +205,8 @@ impl Records {
         self.table.count_of(handle, guid, agent, controller, attr)
     }
 
-    /// Sets the count of an agent's record for a controller with an attribute, on an interface; if the
-    /// count is 0, the record goes. The table is then sound. Takes no memory.
+    /// Sets the count of an agent's record for a controller with an attribute, on an interface; if the count is 0,
+    /// the record is removed. The table is then sound. Takes no memory.
     pub fn set_count(
         &mut self,
         handle: Handle,
@@ -268,8 +268,8 @@ impl Records {
         );
     }
 
-    /// Removes those of a handle's records, on whatever interface, that are of `agent`, if it is given, and
-    /// for `controller`, if it is given, and have a bit of `bits`. Takes no memory.
+    /// Removes those of a handle's records, on any interface, that are of `agent`, if it is given, and for
+    /// `controller`, if it is given, and have a bit of `bits`. Takes no memory.
     pub fn drop_on(
         &mut self,
         handle: Handle,
@@ -357,8 +357,8 @@ impl Records {
         self.table.has_meant(handle, guid, &meant)
     }
 
-    /// What the records of an interface say to an open by an agent for a controller, as `judge` says it.
-    /// Takes no memory.
+    /// What the records of an interface say about an open by an agent for a controller, as `judge` does. Takes no
+    /// memory.
     pub fn judged(
         &self,
         handle: Handle,
@@ -374,8 +374,8 @@ impl Records {
         verdict_of(holder, equal, agent, attr)
     }
 
-    /// Whether an open by an agent for a controller would be a record more than there may be: the error
-    /// `Full` of `add`. Takes no memory.
+    /// Whether an open by an agent for a controller would need a record when there are already as many as there
+    /// may be: the error `Full` of `add`. Takes no memory.
     pub fn is_full(
         &self,
         handle: Handle,

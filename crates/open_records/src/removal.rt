@@ -1,4 +1,4 @@
-//! Records that go, interface by interface.
+//! Records that are removed, interface by interface.
 ghost use Rattle.std.specs.Prelude.{◌≡◌, filter, not};
 ghost use Rattle.open_records.specs.PuttingBack.{picks};
 ghost use Rattle.record_table.specs.declared.open_record.KeyedRecord.{KeyedRecord as KeyedValue};

@@ -70,7 +70,7 @@ fn verdicts(rt: HostRuntime) -> Result<(), Fail> {
         ((5, 0, 0x20), (6, 9, 0x10), Verdict::Denied),
         ((5, 0, 0x20), (6, 0, 0x20), Verdict::Denied),
         ((5, 0, 0x20), (6, 9, 0x30), Verdict::Denied),
-        // against an open that keeps none out
+        // against an open that keeps nobody out
         ((5, 9, 0x02), (5, 9, 0x02), Verdict::Count),
         ((5, 9, 0x02), (5, 9, 0x04), Verdict::Add),
         ((5, 9, 0x02), (6, 9, 0x02), Verdict::Add),
@@ -104,7 +104,7 @@ fn limit_in(rt: &impl Abort, records: &mut Records) -> Result<(), Fail> {
     }
     let one_more = open(rt, records, (1, 1), (65, 0, 0x01));
     assert_eq!(rt; one_more.err(), Some(RecFault::Full));
-    // an equal open is counted all the same
+    // an equal open is still counted
     open(rt, records, (1, 1), (64, 0, 0x01))?;
     let list = records.list(handle(rt, 1), guid(1))?;
     assert_eq!(rt; list.len(), 64);
@@ -437,7 +437,7 @@ fn taking_many_in(rt: &impl Abort, records: &mut Records) -> Result<(), Fail> {
     Ok(())
 }
 
-/// The weak ones of 60,000 records beside one that stays go and come back, many times.
+/// The weak ones of 60,000 records, next to one that stays, are taken out and come back, many times.
 #[test]
 fn weak_many(rt: HostRuntime) -> Result<(), Fail> {
     let mut records = Records::new(rt.alloc(), MOST_RECORDS);
@@ -549,7 +549,8 @@ impl Absent for Records {
     }
 }
 
-/// Records have no call that copies them, and are not Clone: else these would not be the calls of `Absent`.
+/// Records have no call that copies them, and are not Clone: otherwise these would not be the calls of
+/// `Absent`.
 #[test]
 fn no_copies(rt: HostRuntime) -> Result<(), Fail> {
     let records = Records::new(rt.alloc(), 1);

@@ -1,4 +1,4 @@
-//! Which records go, and records that went and are put back.
+//! Which records are removed, and records that were removed and are put back.
 ghost use Rattle.std.specs.Prelude.{◌≡◌, ◌<◌, ◌^◌, length, nat_eq, true, OnOk, IfSome};
 ghost use Rattle.open_records.specs.Asking.{Asks};
 ghost use Rattle.open_records.specs.Going.{PicksWeak};
@@ -11,7 +11,7 @@ use interface_records::{InterfaceRecords, Meant};
 use parted_records::Removed;
 use record_table::{Interface, KeyedRecord, Table, Test};
 
-/// What went: the handle and the GUID of an interface, and what it had.
+/// What was removed: the handle and the GUID of an interface, and what it had.
 #[derive(Drop)]
 pub enum Gone {
     /// One of its records, as it was taken out of them.
@@ -20,7 +20,7 @@ pub enum Gone {
     Weak(Handle, Guid, InterfaceRecords),
 }
 
-/// Which records go.
+/// Which records are removed.
 #[derive(Clone, Copy, Debug)]
 pub enum Choice {
     /// Those of an interface that are of an agent, if it is given, and for a controller, if it is given, and
@@ -37,7 +37,7 @@ pub enum Choice {
         /// The bits.
         bits: u32,
     },
-    /// The same of a handle, on whatever interface.
+    /// The same for a handle, on any interface.
     OnHandle {
         /// The handle.
         handle: Handle,
@@ -48,13 +48,14 @@ pub enum Choice {
         /// The bits.
         bits: u32,
     },
-    /// All of an interface that is removed, and if its handle goes with it, those that name the handle.
+    /// All of an interface that is removed, and if its handle is removed with it, those that name
+    /// the handle.
     WithInterface {
         /// The handle that had the interface.
         handle: Handle,
         /// Its protocol.
         guid: Guid,
-        /// Whether the handle goes.
+        /// Whether the handle is removed.
         gone: bool,
     },
     /// Those that name a handle as agent or as controller.
@@ -65,7 +66,7 @@ pub enum Choice {
 }
 
 impl Choice {
-    /// Whether a record goes.
+    /// Whether a record is removed.
     fn picks(&self, one: &KeyedRecord) -> bool
         ensures { result ≡ picks self.now one.now }
     {
@@ -92,7 +93,8 @@ impl Choice {
 }
 
 impl Choice {
-    /// What it picks of an interface's records: those that are meant, and those that name a handle.
+    /// What it picks among an interface's records: those that are meant, and those that name a
+    /// handle.
     pub(crate) fn asks(&self, owner: Handle, protocol: Guid) -> (Option<Meant>, Option<u64>)
         ensures { Asks (owner, protocol) result self.now }
     {
@@ -141,7 +143,7 @@ impl Choice {
 }
 
 impl Choice {
-    /// An interface, if it picks the weak records of it, and no others.
+    /// An interface, if it picks the interface's weak records and no others.
     pub(crate) fn weak_of(&self) -> Option<Interface>
         ensures { IfSome result (λ interface. PicksWeak interface self.now) }
     {
@@ -186,7 +188,7 @@ impl Test for Choice {
     }
 }
 
-/// Puts back what went one after another, the last one first.
+/// Puts back what was removed one after another, the last one first.
 pub fn put_all(table: &mut Table, mut gone: Vec<Gone>) -> Result<(), OutOfMemory>
     requires rising { rise table.old ≡ true }
     requires fit { AreFitting gone.items table.old }

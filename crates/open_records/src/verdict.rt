@@ -7,7 +7,7 @@ ghost use Rattle.open_records.specs.Verdicts.{against, judge, may_enter};
 use fw_types::Attr;
 use interface_records::Rec;
 
-/// What the records of an interface say to one more open.
+/// What the records of an interface say about one more open.
 #[derive(Clone, Copy, Debug, PartialEq, Eq)]
 pub enum Verdict {
     /// The open is entered as one more record.
@@ -34,18 +34,19 @@ impl Verdict {
     }
 }
 
-/// What the records of one interface say to one more open, by an agent for a controller (UEFI 2.8, 7.3:
-/// OpenProtocol). `controller` is 0 if the open is for none. `list` has at most one record with BY_DRIVER
-/// or EXCLUSIVE. Takes no memory.
+/// What the records of one interface say about one more open, by an agent for a controller (UEFI 2.8, 7.3:
+/// OpenProtocol). `controller` is 0 if the open is for none. `list` has at most one record with BY_DRIVER or
+/// EXCLUSIVE. Takes no memory.
 ///
 /// An open with neither of them is `Count` if a record has the same agent, controller and attribute, and
-/// else `Add`. An open with BY_DRIVER or EXCLUSIVE is `Add` if no record has one of them. If one has:
+/// otherwise `Add`. An open with BY_DRIVER or EXCLUSIVE is `Add` if no record has one of them. If one has:
 ///
 /// - an open with BY_DRIVER alone is `Already` if that record has BY_DRIVER alone and is of the same agent,
-///   and else `Denied`;
-/// - an open with EXCLUSIVE alone is `MustDisconnect` if that record has BY_DRIVER alone, and else `Denied`;
+///   and otherwise `Denied`;
+/// - an open with EXCLUSIVE alone is `MustDisconnect` if that record has BY_DRIVER alone, and otherwise
+///   `Denied`;
 /// - an open with both is `MustDisconnect` if that record has BY_DRIVER alone, `Already` if it has both and
-///   is of the same agent, and else `Denied`.
+///   is of the same agent, and otherwise `Denied`.
 pub fn judge(list: &[Rec], agent: u64, controller: u64, attr: Attr) -> Verdict
     requires { count_by is_strong list.now ≤ 1 }
     ensures { result ≡ judge list.now agent controller attr }

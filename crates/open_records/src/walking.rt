@@ -1,4 +1,4 @@
-//! The interfaces that may have records that go.
+//! The interfaces that may have records to be removed.
 ghost use Rattle.std.specs.Prelude.{◌≡◌, MatchOption, false, true};
 ghost use Rattle.std.specs.List.{list_any};
 ghost use Rattle.open_records.specs.PuttingBack.{picks};

@@ -64,7 +64,7 @@ same_range range other at size =
     let moved : range ≡ record { at = other.at; size = range.size } = ap (λ (n : ℕ). record { at = n; size = range.size }) at in
     moved ∙ ap (λ (n : ℕ). record { at = other.at; size = n }) size
 
--- there is no image where the ROM ends
+-- there is no image at the place at which the ROM ends
 no_image : (place : ℕ) (rom : List ℕ) (range : Range) (end : RomEnd) → end_at (drop place rom) ≡ Some end → range.at ≡ place → IsImage rom range → ⊥
 no_image place rom range end none here image =
     let no : None ≡ Some end = sym image.passes ∙ ap (λ (n : ℕ). end_at (drop n rom)) here ∙ none in cc
@@ -168,7 +168,7 @@ divided (suc most) place rom h =
     divided_here place rom (end_at (drop place rom)) (is_last (drop place rom)) refl refl (λ stands.
     divided most (place + image_length (drop place rom)) rom (omega (arith, h, stands.some, stands.inside, length-drop place rom)))
 
--- ---- where the images lie
+-- ---- the places of the images
 
 range-is : (range : Range) (place size : ℕ) → range.at ≡ place → range.size ≡ size → range ≡ record { at = place; size = size }
 range-is range place size at is = rw (sym at, sym is) refl

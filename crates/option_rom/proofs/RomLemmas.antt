@@ -67,7 +67,7 @@ rom_within-enough (suc n) (suc m) rest h k =
     let size = length-drop (image_length rest) rest in
     rom_within-enough n m (drop (image_length rest) rest) (omega (arith, size, stands.some, h)) (omega (arith, size, stands.some, k)))
 
--- the ROM is an end, an image alone, or an image and the ROM after it
+-- the ROM is an end, only an image, or an image and the ROM after it
 pub rom_in-step : (rest : List ℕ) → rom_in rest ≡ rom_from (end_at rest) (is_last rest) (image_at rest) (rom_in (drop (image_length rest) rest))
 unfolding rom_in rom_within
 rom_in-step [] = refl
@@ -80,7 +80,7 @@ rom_in-step (b ∷ bytes) =
 
 -- ---- how many images there are
 
--- one image more, if there is one
+-- one more image, if there is one
 images-more : (end : Option RomEnd) (last : Bool) (image : Image) (more : Rom) (size : ℕ) (rest : List ℕ) → (end ≡ None → (512 ≤ size) × (size ≤ length rest)) → 512 * length more.images ≤ length rest - size
     → 512 * length (rom_from end last image more).images ≤ length rest
 images-more (Some end) last image more size rest stands fewer = omega arith

@@ -1,6 +1,6 @@
 -- The grammar of option ROMs: bytes are images, one after the other, and an end (PCI Firmware 3.2: PCI
--- Expansion ROM Header Format, PCI Data Structure Format; UEFI 2.8: PCI Option ROMs). The words on an image
--- speak of `rest`, the bytes of the ROM from the image's first byte on.
+-- Expansion ROM Header Format, PCI Data Structure Format; UEFI 2.8: PCI Option ROMs). In the definitions
+-- for an image, `rest` is the bytes of the ROM from the image's first byte on.
 use Rattle.std.specs.Prelude.{ℕ, zero, suc, ◌+◌, ◌*◌, ◌/◌, ◌%◌, ◌^◌, List, [], ◌∷◌, length, take, drop, slice_index, Bool, true, false, not, ◌&&◌, ◌||◌, nat_eq, nat_lt, codes, Option, Some, None, option_map, if◌then◌else◌}
 use Rattle.std.specs.List.{find, starts_with}
 use Rattle.byteorder.specs.Endian.{little_number}
@@ -58,7 +58,7 @@ conditions =
     ∷ record { holds = is_cut_off; end = PastEnd }
     ∷ []
 
--- why there is no image here: the first condition that holds. If none does, there is one
+-- why there is no image here: the first condition that holds. If none holds, there is an image
 abbrev pub end_at : List ℕ → Option RomEnd
 end_at rest = option_map (λ condition. condition.end) (find (λ condition. condition.holds rest) conditions)
 
@@ -126,6 +126,6 @@ rom_within zero rest = record { images = []; end = BadSignature }
 rom_within (suc most) rest =
     rom_from (end_at rest) (is_last rest) (image_at rest) (rom_within most (drop (image_length rest) rest))
 
--- the ROM that bytes are
+-- bytes as a ROM
 unfoldable pub rom_in : List ℕ → Rom
 rom_in bytes = rom_within (length bytes) bytes

@@ -29,7 +29,7 @@ header_fields units =
     ∷ uint16 24 (codes "Offset to PCIR Data Structure") 28
     ∷ []
 
--- bit 7 of the indicator alone, in the last image
+-- the indicator: only bit 7, and that only in the last image
 abbrev pub indicator : Bool → ℕ
 indicator last = if last then 0x80 else 0
 

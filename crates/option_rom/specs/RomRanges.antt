@@ -49,7 +49,8 @@ last_says_so rom [] = false
 last_says_so rom (range ∷ []) = says_last rom range
 last_says_so rom (range ∷ next ∷ ranges) = last_says_so rom (next ∷ ranges)
 
--- after an image that says that it is the last the ROM is done; else a condition holds at the place after it
+-- after an image that says that it is the last the ROM is done; otherwise a condition holds at the place
+-- after it
 abbrev pub EndsAs : Bool → List ℕ → ℕ → RomEnd → Type 0
 EndsAs true rom place end = end ≡ Done
 EndsAs false rom place end = end_at (drop place rom) ≡ Some end

@@ -22,7 +22,7 @@ const PLAIN: [(usize, u8); 14] = [
     (44, 1),
 ];
 
-/// What such an image has besides if it is a compressed EBC image.
+/// What such an image also has if it is a compressed EBC image.
 const COMPRESSED: [(usize, u8); 10] = [
     (4, 0xF1),
     (5, 0x0E),
@@ -71,7 +71,7 @@ const SMALLEST: [(usize, u8); 31] = [
     (0x204, 0x04),
 ];
 
-/// The bytes that are not 0 before that driver in the ROM that is written of it alone.
+/// The bytes that are not 0 before that driver in the ROM that is written with it alone.
 const FRONT: [(usize, u8); 24] = [
     (0, 0x55),
     (1, 0xAA),

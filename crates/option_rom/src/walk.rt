@@ -52,7 +52,7 @@ pub fn images(bytes: &[u8]) -> RomIter<'_>
 }
 
 impl<'a> RomIter<'a> {
-    /// The next image; `None` if there is no further one, from then on.
+    /// The next image; `None` if there is no further one, and always from then on.
     pub fn next(&mut self) -> Option<RomImage<'a>>
         ensures image { Takes self.old.images result self.new.images }
         ensures end { self.new.end ≡ self.old.end }

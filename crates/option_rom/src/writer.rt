@@ -73,7 +73,7 @@ fn put_part(rom: &mut Vec<u8>, part: &RomPart, last: bool) -> Result<(), OutOfMe
     Ok(())
 }
 
-/// How many units of 512 bytes the image has of a body of so many bytes.
+/// How many units of 512 bytes the image of a body of so many bytes has.
 fn units_of(size: usize) -> u16
     requires { size ≤ longest_body }
     ensures { result ≡ (64 + size + 511) / 512 }

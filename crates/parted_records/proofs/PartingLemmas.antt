@@ -1,4 +1,4 @@
--- The records that stay, where all records change.
+-- The records that stay, as all records change.
 use Rattle.std.proofs.Common.{◌≡◌, ◌<◌, ◌+◌, ℕ, Bool, true, false, not, List, [], ◌∷◌, ◌++◌, Option, Some, None, refl, sym, ap, ◌∙◌, inl, inr, filter, map, length, take, drop, get_or, if◌then◌else◌}
 use Rattle.std.specs.Prelude.{IfSome}
 use Rattle.fw_types.specs.declared.attr.TheConstants.Attr.{WEAK_BITS}
@@ -13,7 +13,7 @@ use Rattle.interface_records.specs.declared.interface_records.Taken.{Taken}
 use Rattle.interface_records.specs.declared.open_record.Rec.{Rec}
 use Rattle.parted_records.specs.Parting.{ComesBack, Follows, IsCopy, IsFrom, IsPlace, MayEnter, is_lasting, lasting}
 
--- a copy that has a change, where those that stay have it too
+-- a copy that is changed, if those that stay are changed in the same way
 pub copy_follows : (change : List Rec → List Rec) (old new : Option (List Rec)) (before after : List Rec) → IsCopy old before → Follows change old new → change (lasting before) ≡ lasting after → IsCopy new after
 copy_follows change old None before after is follows same = tt
 copy_follows change None (Some new) before after is follows same = absurd follows
@@ -41,7 +41,7 @@ lasting_pushed rec records = sym (filter-append is_lasting records (rec ∷ []) 
     by_stay true stays = rw stays refl
     by_stay false goes = rw goes (append-nil (lasting records))
 
--- a count is no part of what tells whether a record stays
+-- whether a record stays does not depend on its count
 pub lasting_counted : (test : Rec → Bool) (count : ℕ) (records : List Rec)
     → map (λ (rec : Rec). if test rec then recounted count rec else rec) (lasting records) ≡ lasting (map (λ (rec : Rec). if test rec then recounted count rec else rec) records)
 lasting_counted test count [] = refl
@@ -103,7 +103,7 @@ apart_lasting (rec ∷ records) apart =
       | inr goes ↦ rw goes (apart_lasting records parts.1)
     ]
 
--- one of them is new beside those that stay of those before it
+-- one of them is new among those that stay of the records before it
 pub new_at : (all : List Rec) (i : ℕ) (rec : Rec) (d : Rec) → EachIsNew → stand_apart all ≡ true → i < length all → rec ≡ get_or all i d → IsNew rec (lasting (take i all))
 new_at all i rec d law apart within is =
     let rest : List Rec = drop (i + 1) all in
@@ -135,7 +135,7 @@ may_enter (Some place) taken (Some own) before after law is fit put apart =
     let sound : stand_apart (put_again place (lasting before)) ≡ true = ap stand_apart whole ∙ apart_lasting after apart in
     rw is (law place (lasting before) sound).1
 
--- the copy stays one where nothing changes for it
+-- the copy stays one if nothing changes for it
 same_copy : (copy : Option (List Rec)) (before after : List Rec) → lasting before ≡ lasting after → IsCopy copy before → IsCopy copy after
 same_copy None before after same is = tt
 same_copy (Some own) before after same is = is ∙ same
@@ -148,7 +148,7 @@ copy_back true (Some place) taken old new before after stays is fit put back = c
 
 -- ---- without a copy
 
--- where all are weak, none stays
+-- if all are weak, none stays
 pub none_stays : (records : List Rec) → list_all (has_bits WEAK_BITS) records ≡ true → lasting records ≡ []
 none_stays [] all = refl
 none_stays (rec ∷ records) all =

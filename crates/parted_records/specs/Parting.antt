@@ -1,4 +1,5 @@
--- The open records of an interface, of which the weak ones may leave as one (UEFI 2.8, 7.3: UninstallProtocolInterface).
+-- The open records of an interface, of which the weak ones may be taken out as one (UEFI 2.8, 7.3:
+-- UninstallProtocolInterface).
 use Rattle.std.specs.Prelude.{◌≡◌, Bool, true, false, not, List, filter, Option, Some, None}
 use Rattle.fw_types.specs.declared.attr.TheConstants.Attr.{WEAK_BITS}
 use Rattle.interface_records.specs.Records.{IsNew, has_bits}
@@ -7,7 +8,7 @@ use Rattle.interface_records.specs.declared.interface_records.Taken.{Taken}
 use Rattle.interface_records.specs.declared.open_record.Rec.{Rec}
 use Rattle.parted_records.specs.declared.copying.Removed.{Removed}
 
--- whether a record stays when the weak ones go: it has none of their bits
+-- whether a record stays when the weak ones are taken out: it has none of their bits
 abbrev pub is_lasting : Rec → Bool
 is_lasting rec = not (has_bits WEAK_BITS rec)
 
@@ -22,7 +23,7 @@ abbrev pub IsCopy : Option (List Rec) → List Rec → Type 0
 IsCopy None records = Unit {0}
 IsCopy (Some copy) records = copy ≡ lasting records
 
--- the copy, if it is still there, was there and has a change
+-- if there is still a copy, there was one before, and it has been changed in this way
 abbrev pub Follows : (List Rec → List Rec) → (old new : Option (List Rec)) → Type 0
 Follows change old None = Unit {0}
 Follows change None (Some new) = ⊥
@@ -41,17 +42,17 @@ abbrev pub IsPlace : Option Taken → Taken → List Rec → Type 0
 IsPlace None taken records = Unit {0}
 IsPlace (Some place) taken records = put_again place (lasting records) ≡ lasting (put_again taken records)
 
--- a record that was taken out of these records can be put in again beside a copy of those that stay
+-- a record that was taken out of these records can be put in again, and also in a copy of those that stay
 abbrev pub IsFit : Removed → List Rec → Type 0
 IsFit removed records = IsPlace removed.place removed.taken records
 
--- it is new beside the copy
+-- it is new among the records of the copy
 abbrev pub MayEnter : Option Taken → Option (List Rec) → Type 0
 MayEnter None copy = Unit {0}
 MayEnter (Some place) None = Unit {0}
 MayEnter (Some place) (Some copy) = IsNew place.rec copy
 
--- a record comes back: to the copy too, if it is one that stays; then the copy goes if its place is not known
+-- a record comes back: to the copy too, if it is one that stays; if its place there is not known, the copy is given up
 abbrev pub ComesBack : (stays : Bool) → Option Taken → (old new : Option (List Rec)) → Type 0
 ComesBack false place old new = new ≡ old
 ComesBack true None old new = new ≡ None

@@ -8,23 +8,25 @@ use fw_types::{Attr, OutOfMemory};
 use interface_records::{InterfaceRecords, Opener, Rec, Taken, Test, records_stand_apart};
 use std::alloc::Global;
 
-/// A record that was taken out, and what it takes to put it in its place again.
+/// A record that was taken out, and what is needed to put it in its place again.
 #[derive(Clone, Copy, Debug)]
 pub struct Removed {
     /// It, and its place among all records.
     pub taken: Taken,
-    /// It, and its place among those that stay when the weak ones go, if it is one and that was known.
+    /// It, and its place among those that stay when the weak ones are taken out, if it is one of
+    /// those and the place was known.
     pub place: Option<Taken>,
 }
 
-/// Whether a record stays when the weak ones go.
+/// Whether a record stays when the weak ones are taken out.
 fn is_lasting(rec: &Rec) -> bool
     ensures { result ≡ is_lasting rec.now }
 {
     !rec.attr.has_bit_of(Attr::WEAK_BITS)
 }
 
-/// Enters a record that stays after the others of the copy. Without memory the copy is given up.
+/// Enters a record that stays after the others of the copy. If memory runs out the copy is given
+/// up.
 pub fn push_copy(copy: &mut Option<InterfaceRecords>, rec: &Rec)
     requires { IfSome copy.old (λ records. IsNew rec.now records) }
     ensures { Follows (λ records. if is_lasting rec.now then records ++ rec.now ∷ [] else records) copy.old copy.new }
@@ -51,8 +53,8 @@ pub fn take_copy(copy: &mut Option<InterfaceRecords>, opener: Opener) -> Option<
     }
 }
 
-/// Puts a record in its place in the copy again, if it is one that stays. Without its place, or without memory, the
-/// copy is given up.
+/// Puts a record in its place in the copy again, if it is one that stays. If its place is not
+/// known, or memory runs out, the copy is given up.
 pub fn put_copy(copy: &mut Option<InterfaceRecords>, removed: &Removed)
     requires { MayEnter removed.now.place copy.old }
     ensures { ComesBack (is_lasting removed.now.taken.rec) removed.now.place copy.old copy.new }

@@ -1,4 +1,4 @@
-//! The records of an interface, beside a copy of those that stay when the weak ones go.
+//! The records of an interface, with a copy of those that stay when the weak ones are taken out.
 ghost use Rattle.std.specs.Prelude.{◌≡◌, ◌∷◌, ◌++◌, [], false, true, not, IfOk, IfSome, MatchOption, OnOk, OnErr, filter, find, length, map, if◌then◌else◌};
 ghost use Rattle.std.specs.List.{list_all, list_any};
 ghost use Rattle.interface_records.specs.Listing.{Lists};
@@ -213,8 +213,8 @@ impl PartedRecords {
         Ok(())
     }
 
-    /// Takes out the weak records, if there is a copy of the others or there are none, and answers all that
-    /// there were. Takes no memory, and looks at no record.
+    /// Takes out the weak records, if there is a copy of the others or there are none, and answers all the records
+    /// that there were. Takes no memory, and looks at no record.
     pub fn take_weak(&mut self) -> Option<InterfaceRecords>
         ensures { MatchOption result (self.new ≡ self.old) (λ whole. (whole ≡ self.old) × (self.new ≡ lasting self.old)) }
     {
@@ -237,7 +237,8 @@ impl PartedRecords {
     }
 
     /// Makes a copy of the records that stay, if there is none and it is worth it: if at least as many weak records
-    /// went one by one as there are records. `going` go now. Without memory there is no copy. The records stay.
+    /// were taken out one by one as there are records. `going` of them are taken out now. If memory runs out there
+    /// is no copy. The records stay.
     pub fn prepare(&mut self, going: usize)
         ensures { self.new ≡ self.old }
     {
@@ -252,7 +253,7 @@ impl PartedRecords {
     }
 }
 
-/// The copy of the records that stay, if there is one, or none is needed: none stays.
+/// The copy of the records that stay, if there is one; or no records, if none stays and so no copy is needed.
 fn at_hand(
     alloc: Global,
     all: &InterfaceRecords,

@@ -56,7 +56,7 @@ fn five(rt: &impl Abort, records: &mut PartedRecords) -> Result<(), OutOfMemory>
     Ok(())
 }
 
-/// The weak records leave as one beside others, and come back to their places.
+/// The weak records are taken out as one from among others, and come back to their places.
 #[test]
 fn weak_leave_and_come_back(rt: HostRuntime) -> Result<(), Fail> {
     let mut records = PartedRecords::new(rt.alloc());
@@ -69,7 +69,8 @@ fn weak_leave_and_come_back(rt: HostRuntime) -> Result<(), Fail> {
     Ok(())
 }
 
-/// Without a copy of the others they do not; one is made once as many went as there are.
+/// Without a copy of the others they are not; a copy is made once as many were taken out as there
+/// are.
 #[test]
 fn a_copy_is_made_again(rt: HostRuntime) -> Result<(), Fail> {
     let mut records = PartedRecords::new(rt.alloc());
@@ -88,7 +89,7 @@ fn a_copy_is_made_again(rt: HostRuntime) -> Result<(), Fail> {
     Ok(())
 }
 
-/// A record that stays goes and comes back, and then the weak ones do.
+/// A record that stays is taken out and comes back, and then the weak ones do.
 #[test]
 fn one_goes_before_the_weak(rt: HostRuntime) -> Result<(), Fail> {
     let mut records = PartedRecords::new(rt.alloc());

@@ -74,7 +74,7 @@ unfolding one_if
 once_by p xs x true is one new = omega (arith, count-push p xs x, count-none p xs (new is), one_if-most (p x))
 once_by p xs x false is one new = let none : one_if (p x) ≡ 0 = rw is refl in omega (arith, count-push p xs x, none)
 
--- a test that one element at most passes, and a new one only if none passed it before
+-- a test that at most one element passes, and a new one only if none passed it before
 once_more : {X : Type 0} (p : X → Bool) (xs : List X) (found : Option X) → count p xs ≤ 1 → ((x : X) → found ≡ Some x → p x ≡ true → list_any p xs ≡ false) → count p (xs ++ cons_option found []) ≤ 1
 once_more p xs None one new = rw (append-nil xs) one
 once_more p xs (Some x) one new = once_by p xs x (p x) refl one (new x refl)
@@ -87,7 +87,7 @@ none_counted p = omega arith
 pub tested : {X : Type 0} (test : X → Bool) (found : Option X) (x : X) → found ≡ Some x → option_map_or test found false ≡ false → test x ≡ false
 tested test found x is h = ap (λ o. option_map_or test o false) (sym is) ∙ h
 
--- at each location there is one function at most
+-- at each location there is at most one function
 pub one_function : (lines : List BoardLine) → board_fault lines ≡ None → (location : Location) → count (λ (function : Function). is_at function.location location) (functions lines) ≤ 1
 one_function lines ok location =
     holds_of_board (λ (lines : List BoardLine). count (λ (function : Function). is_at function.location location) (functions lines) ≤ 1)
@@ -98,7 +98,7 @@ one_function lines ok location =
     (sym (is_some-position (λ (other : Function). is_at other.location function.location) (functions before)) ∙ none))))
     lines (none_counted _) ok
 
--- of each index a function has one BAR at most
+-- of each index a function has at most one BAR
 pub one_bar : (lines : List BoardLine) → board_fault lines ≡ None → (location : Location) (index : ℕ) → count (λ (range : BarRange). is_at range.location location && nat_eq range.index index) (filter_map range_of lines) ≤ 1
 one_bar lines ok location index =
     holds_of_board (λ (lines : List BoardLine). count (λ (range : BarRange). is_at range.location location && nat_eq range.index index) (filter_map range_of lines) ≤ 1)

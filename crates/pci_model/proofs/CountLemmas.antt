@@ -1,4 +1,4 @@
--- How often a test holds in a list, and where first.
+-- How often a test holds in a list, and at which place first.
 use Rattle.std.proofs.Common.{◌≡◌, ◌≤◌, ◌+◌, ◌*◌, ℕ, zero, suc, Bool, true, false, ◌||◌, cond, List, [], ◌∷◌, ◌++◌, length, Option, Some, None, if◌then◌else◌, refl, ap, sym, ◌∙◌, arith}
 use Rattle.std.specs.Prelude.{count_by, is_some}
 use Rattle.std.specs.List.{cons_option, filter_map, list_any, position, position_from, slice_get}
@@ -85,7 +85,7 @@ grows_by f g p x xs true is grows some rest =
     omega (arith, grows x)
 grows_by f g p x xs false is grows some rest = omega (arith, grows x, rest some)
 
--- one of them by 1 at least
+-- one of them by at least 1
 pub total-grows : {X : Type 0} (f g : X → ℕ) (p : X → Bool) (xs : List X) → ((x : X) → f x + one_if (p x) ≤ g x) → list_any p xs ≡ true → total f xs + 1 ≤ total g xs
 unfolding total
 total-grows f g p [] grows some = absurd cc
@@ -146,7 +146,7 @@ count-some p (y ∷ xs) zero x at is =
     omega (arith, one_if-true (p y) (ap p same ∙ is))
 count-some p (y ∷ xs) (suc k) x at is = omega (arith, count-some p xs k x at is)
 
--- if one element at most passes, its place is the first
+-- if at most one element passes, its place is the first
 one_from : {X : Type 0} (p : X → Bool) (n : ℕ) (xs : List X) (k : ℕ) (x : X) → count p xs ≤ 1 → slice_get xs k ≡ Some x → p x ≡ true → position_from p n xs ≡ Some (n + k)
 unfolding count
 one_from p n [] k x one at is = absurd cc

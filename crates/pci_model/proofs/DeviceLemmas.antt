@@ -110,7 +110,7 @@ bar_read-none board f index at n sound none =
     let no : has_function board.lines f ≡ false = sym (has_function-is board f sound) ∙ ap is_some none in
     rw no refl
 
--- what is refused of a BAR of a device
+-- what is refused for a BAR of a device
 pub bar_refusal-is : (board : BoardState) (f index at n : ℕ) (device : DeviceState) → IsSound board → slice_get board.devices f ≡ Some device
     → bar_refusal board.lines f index at n ≡ past_bar_end (option_map (λ (bar : BarBytes). length bar.bytes) (find (λ (bar : BarBytes). nat_eq bar.index index) device.bars)) (at + n)
 bar_refusal-is board f index at n device sound there =

@@ -60,7 +60,7 @@ any_later : (found : Option ℕ) (number : ℕ) (rest : List ℕ) → list_any (
 any_later None number rest later = later
 any_later (Some other) number rest later = or-true (nat_eq number other) (list_any (nat_eq number) rest) later
 
--- a number that is found somewhere is among those that are found
+-- a number that is found at some place is among those that are found
 any_at : (h : ℕ → Option ℕ) (from count k number : ℕ) → from ≤ k → k < from + count → h k ≡ Some number → list_any (nat_eq number) (filter_map h (range_with_len from count)) ≡ true
 any_at h from zero k number low high is = absurd (omega arith)
 any_at h from (suc count) k number low high is =
@@ -69,7 +69,7 @@ any_at h from (suc count) k number low high is =
     (λ apart. any_later (h from) number (filter_map h (range_with_len (from + 1) count)) (any_at h (from + 1) count k number (omega (arith, apart)) (omega arith) is))
     (first_or_later from k low)
 
--- numbers that are found are found somewhere
+-- numbers that are found are found at some place
 record IsFoundSomewhere (h : ℕ → Option ℕ) (number : ℕ) : Type 0 where
   place : ℕ
   is : h place ≡ Some number

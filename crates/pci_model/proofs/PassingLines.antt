@@ -1,4 +1,4 @@
--- Lines of a board: each passes the rules after the lines before it.
+-- Lines of a board: each passes the rules, given the lines before it.
 use Rattle.std.proofs.Common.{◌≡◌, ◌≤◌, ◌<◌, ◌+◌, ℕ, suc, Bool, true, false, cond, List, [], ◌∷◌, ◌++◌, length, take, drop, get_or, Option, Some, None, refl, ap, sym, subst, ◌∙◌, arith, append_assoc, append-nil, drop-cons}
 use Rattle.std.proofs.lemmas.List.{length-take-le, take-append-drop, take_all, take_more}
 use Rattle.std.specs.Prelude.{find, option_map}
@@ -9,7 +9,7 @@ use Rattle.pci_model.specs.declared.fault.BoardFault.{BoardFault}
 
 -- ---- a line that passes
 
--- a line breaks no rule after the lines before it
+-- a line breaks no rule, given the lines before it
 pub record Passes (before : List BoardLine) (line : BoardLine) : Type 0 where
   pub roots : is_extra_root before line ≡ false
   pub functions : is_extra_function before line ≡ false

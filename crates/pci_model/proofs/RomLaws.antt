@@ -13,7 +13,7 @@ any-false : (a b : Bool) → a || b ≡ false → (a ≡ false) × (b ≡ false)
 any-false true b h = absurd cc
 any-false false b h = (refl, h)
 
--- no line names a ROM that no line is for
+-- if no line is for a ROM, no line names it
 none_named : (location : Location) (lines : List BoardLine) → has_rom lines location ≡ false → filter_map (name_at location) lines ≡ []
 none_named location [] none = refl
 none_named location (Root uid bus ∷ lines) none = none_named location lines none

@@ -1,4 +1,4 @@
--- What a board keeps beside its lines.
+-- What a board keeps next to its lines.
 use Rattle.std.proofs.Common.{◌≡◌, ◌≤◌, ◌<◌, ◌+◌, ◌/◌, ◌%◌, ℕ, zero, suc, Bool, true, false, ◌&&◌, nat_eq, nat_le, nat_lt, cond, List, [], ◌∷◌, ◌++◌, length, take, drop, get_or, Option, Some, None, refl, ap, sym, ◌∙◌, arith, drop-cons}
 use Rattle.std.specs.Prelude.{filter}
 use Rattle.std.specs.List.{cons_option, filter_map, list_all, position, range_with_len, slice_get}
@@ -63,7 +63,7 @@ then_eq Less b = refl
 then_eq Equal b = refl
 then_eq Greater b = refl
 
--- locations tie exactly if they are one
+-- locations tie exactly if they are the same
 pub is_eq-location_cmp : (location other : Location) → is_eq (location_cmp location other) ≡ is_at location other
 is_eq-location_cmp location other =
     then_eq (ordering_then (nat_cmp location.0 other.0) (nat_cmp location.1 other.1)) (nat_cmp location.2 other.2)

@@ -7,14 +7,14 @@ use Rattle.pci_model.specs.declared.line.BoardLine.{BoardLine}
 use Rattle.pci_model.specs.BoardLines.{functions, functions_on, secondary_of}
 use Rattle.pci_model.specs.Ways.{way_to}
 
--- a bus and the buses below it, at most so many one below the other: the functions on the bus by device and then by
--- function number, each bridge followed by those of its own bus
+-- a bus and the buses below it, down to at most so many levels: the functions on the bus by device and then by function
+-- number, each bridge followed by those of its own bus
 unfoldable pub functions_within : (most : ℕ) → List BoardLine → (bus : ℕ) → List ℕ
 functions_within zero lines bus = []
 functions_within (suc most) lines bus =
     flat_map (λ number. number ∷ option_map_or (functions_within most lines) (secondary_of lines number) []) (functions_on lines bus)
 
--- all of them: below a bus that has functions there are fewer buses with functions than functions
+-- all of them: a bus with functions has fewer buses with functions below it than there are functions
 abbrev pub functions_below : List BoardLine → (bus : ℕ) → List ℕ
 functions_below lines bus = functions_within (length (functions lines)) lines bus
 

@@ -13,7 +13,7 @@ use Rattle.pci_model.specs.declared.fault.LineFault.TheVariants.{Extra, Number, 
 use Rattle.pci_model.specs.declared.fault.BoardFault.{BoardFault}
 use Rattle.pci_model.specs.declared.fault.BoardFault.TheVariants as board
 
--- ---- the tests: what a line must not be, after the lines before it
+-- ---- the tests: what a line must not be, given the lines before it
 
 -- a 17th root bridge
 abbrev pub is_extra_root : List BoardLine → BoardLine → Bool
@@ -30,7 +30,7 @@ is_off_bus location = nat_lt HIGHEST_DEVICE location.1 || nat_lt HIGHEST_FUNCTIO
 abbrev pub has_bad_location : BoardLine → Bool
 has_bad_location line = option_map_or is_off_bus (named_location line) false
 
--- a function of the vendor 0xFFFF, which is none
+-- a function of the vendor 0xFFFF, which is no vendor
 abbrev pub has_bad_vendor : BoardLine → Bool
 has_bad_vendor line = option_map_or (λ function. nat_lt HIGHEST_VENDOR function.vendor) (function_of line) false
 
@@ -58,7 +58,7 @@ is_bridge_at location function = is_at function.location location && is_some fun
 abbrev pub has_bridge : List BoardLine → Location → Bool
 has_bridge lines location = list_any (is_bridge_at location) (functions lines)
 
--- the highest index of a BAR of the function at a location: 1 of a bridge, 5 of another
+-- the highest index of a BAR of the function at a location: 1 for a bridge, 5 for another
 abbrev pub highest_index : List BoardLine → Location → ℕ
 highest_index lines location = if has_bridge lines location then HIGHEST_BRIDGE_BAR else HIGHEST_BAR
 
@@ -71,16 +71,16 @@ has_bad_index before line =
 abbrev pub has_bad_size : BarRange → Bool
 has_bad_size range = not (is_power_of_two range.size) || nat_lt range.size SMALLEST_BAR || nat_lt LARGEST_BAR range.size
 
--- a BAR of such a size, or whose address is no multiple of its size
+-- a BAR with such a size, or whose address is no multiple of its size
 abbrev pub has_bad_range : BoardLine → Bool
 has_bad_range line =
     option_map_or (λ range. has_bad_size range || not (nat_eq (range.address % range.size) 0)) (range_of line) false
 
--- a bus that is declared
+-- a bus that is declared already
 abbrev pub repeats_bus : List BoardLine → BoardLine → Bool
 repeats_bus before line = option_map_or (has_bus before) (declared_bus line) false
 
--- a function at a location where one is
+-- a function at a location that already has one
 abbrev pub repeats_function : List BoardLine → BoardLine → Bool
 repeats_function before line = option_map_or (λ function. is_some (find_at before function.location)) (function_of line) false
 
@@ -91,7 +91,7 @@ is_same_bar range other = is_at other.location range.location && nat_eq other.in
 abbrev pub has_bar : List BoardLine → BarRange → Bool
 has_bar lines range = list_any (is_same_bar range) (filter_map range_of lines)
 
--- a BAR of an index of which the function has one
+-- a BAR with an index that another BAR of the function has already
 abbrev pub repeats_bar : List BoardLine → BoardLine → Bool
 repeats_bar before line = option_map_or (has_bar before) (range_of line) false
 
@@ -99,13 +99,13 @@ repeats_bar before line = option_map_or (has_bar before) (range_of line) false
 abbrev pub has_rom : List BoardLine → Location → Bool
 has_rom lines location = list_any (λ other. is_at other location) (filter_map rom_location lines)
 
--- a ROM of a function that has one
+-- a ROM of a function that has one already
 abbrev pub repeats_rom : List BoardLine → BoardLine → Bool
 repeats_rom before line = option_map_or (has_rom before) (rom_location line) false
 
 -- ---- the table
 
--- a test, and the fault of a line that meets it
+-- a test, and the fault of a line for which it holds
 pub record Rule : Type 0 where
   pub breaks : List BoardLine → BoardLine → Bool
   pub fault : LineFault
@@ -129,29 +129,29 @@ rules =
     ∷ record { breaks = repeats_rom; fault = Duplicate }
     ∷ []
 
--- what is wrong with a line after the lines before it: the first rule that it breaks
+-- what is wrong with a line, given the lines before it: the first rule that it breaks
 unfoldable pub line_fault : List BoardLine → BoardLine → Option LineFault
 line_fault before line = option_map (λ rule. rule.fault) (find (λ rule. rule.breaks before line) rules)
 
 -- ---- the lines of a board
 
--- the fault of a board with this one on a line
+-- the fault of a board, for this fault on a line
 abbrev pub fault_on : LineFault → ℕ → BoardFault
 fault_on Extra line = board.Extra line
 fault_on Number line = board.Number line
 fault_on Duplicate line = board.Duplicate line
 
--- the fault of a line, or else that of the lines after it
+-- the fault of a line, or otherwise that of the lines after it
 abbrev pub fault_or : Option LineFault → ℕ → Option BoardFault → Option BoardFault
 fault_or None line later = later
 fault_or (Some fault) line later = Some (fault_on fault line)
 
--- what is wrong with lines after those before them
+-- what is wrong with lines, given those before them
 abbrev pub fault_after : List BoardLine → List BoardLine → Option BoardFault
 fault_after before [] = None
 fault_after before (line ∷ lines) =
     fault_or (line_fault before line) (length before + 1) (fault_after (before ++ line ∷ []) lines)
 
--- why lines are no board: the fault of the first that has one
+-- why lines are no board: the fault of the first line that has one
 unfoldable pub board_fault : List BoardLine → Option BoardFault
 board_fault lines = fault_after [] lines

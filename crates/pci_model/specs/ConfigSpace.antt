@@ -11,8 +11,8 @@ use Rattle.pci_model.specs.declared.function.BarRange.{BarRange}
 use Rattle.pci_model.specs.DeviceState.{DeviceState}
 use Rattle.pci_model.specs.declared.device.BarBytes.{BarBytes}
 
--- the vendor ID, the device ID, the class code (the programming interface first), and the header type: 1 of a
--- bridge, 0 of another function
+-- the vendor ID, the device ID, the class code (the programming interface first), and the header type: 1 for
+-- a bridge, 0 for another function
 abbrev pub header_fields : Function → List Field
 header_fields function =
     uint16 0x00 (codes "Vendor ID") function.vendor

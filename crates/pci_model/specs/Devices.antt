@@ -41,7 +41,7 @@ bar_size lines number index =
     option_and_then (λ location. option_map (λ range. range.size) (find (λ range. nat_eq range.index index) (ranges_at lines location)))
     (location_of lines number)
 
--- bytes that end after the end of so many
+-- bytes that end after a size
 abbrev pub past_end : (size end : ℕ) → Option DevRefusal
 past_end size end = if nat_lt size end then Some PastEnd else None
 
@@ -106,7 +106,7 @@ abbrev pub with_byte : ℕ → List ℕ → List ℕ → ℕ → List ℕ
 with_byte at bytes config place =
     if nat_le at place && nat_lt place (at + length bytes) then slice_set config place (slice_index bytes (place - at)) else config
 
--- configuration space after a write: each byte that can be written is from it, if it reaches it
+-- configuration space after a write: each byte that can be written comes from it, if the write reaches it
 abbrev pub config_after : ℕ → List ℕ → List ℕ → List ℕ
 config_after at bytes config = fold (with_byte at bytes) config writable_places
 
@@ -124,7 +124,7 @@ with_change_at zero change (x ∷ xs) = change x ∷ xs
 with_change_at (suc place) change (x ∷ xs) = x ∷ with_change_at place change xs
 
 -- a board after a write of these bytes to the configuration space of a function, or to one of its BARs, from
--- `at` on; all else is as before
+-- `at` on; everything else is as before
 abbrev pub config_written : (number at : ℕ) → List ℕ → BoardState → BoardState
 config_written number at bytes board = record board {
   devices = with_change_at number (λ device. record device { config = config_after at bytes device.config }) board.devices;

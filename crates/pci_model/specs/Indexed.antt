@@ -1,4 +1,4 @@
--- A board with its tables, as the code keeps them beside the lines.
+-- A board with its tables, as the code keeps them next to the lines.
 use Rattle.std.specs.Prelude.{◌≡◌, ◌≤◌, ℕ, List, count_by}
 use Rattle.std.specs.Ordering.{nat_cmp, ordering_then}
 use Rattle.std.specs.declared.cmp.Ordering.{Ordering}

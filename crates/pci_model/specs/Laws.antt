@@ -29,11 +29,12 @@ pub record IsRefusedFor (lines : List BoardLine) (fault : BoardFault) : Type 0 w
 abbrev pub RefusedAtFirst : Type 0
 RefusedAtFirst = (lines : List BoardLine) (fault : BoardFault) → board_fault lines ≡ Some fault → IsRefusedFor lines fault
 
--- each line of a board has no fault after the lines before it
+-- each line of a board has no fault, given the lines before it
 abbrev pub EachPasses : Type 0
 EachPasses = (before after : List BoardLine) (line : BoardLine) → board_fault (before ++ line ∷ after) ≡ None → line_fault before line ≡ None
 
--- no lines are a board, and lines of a board with one more that has no fault after them are a board
+-- no lines are a board; and if lines are a board and one more has no fault after them, they are a board
+-- with it
 abbrev pub NoLines : Type 0
 NoLines = board_fault [] ≡ None
 
@@ -64,14 +65,14 @@ IsWhereFound = (lines : List BoardLine) (number : ℕ) (location : Location) →
 abbrev pub AmongItsBus : Type 0
 AmongItsBus = (lines : List BoardLine) (number : ℕ) (location : Location) → board_fault lines ≡ None → location_of lines number ≡ Some location → list_any (nat_eq number) (functions_on lines location.0) ≡ true
 
--- and each function on a bus is one of it
+-- and each function in that list is on the bus
 abbrev pub OnlyOfBus : Type 0
 OnlyOfBus = (lines : List BoardLine) (number bus : ℕ) → list_any (nat_eq number) (functions_on lines bus) ≡ true
     → (location : Location) × ((location_of lines number ≡ Some location) × (location.0 ≡ bus))
 
 -- ---- option ROMs
 
--- of the lines before one that names the ROM of a function none names it
+-- if a line names the ROM of a function, no line before it names that ROM
 abbrev pub RomIsNew : Type 0
 RomIsNew =
     (before after : List BoardLine) (bus device function : ℕ) (name : List ℕ) → board_fault (before ++ Rom bus device function name ∷ after) ≡ None

@@ -31,7 +31,7 @@ use std::marker::Model;
 const POSITIONS_ON_BUS: u16 = 256;
 
 /// A board: its lines, and what drivers read and write of its functions. A function's number is its
-/// place among the functions, bridges among them, in line order from 0.
+/// place among the functions, including bridges, in line order from 0.
 #[derive(Drop)]
 pub struct Board {
     lines: Vec<BoardLine>,
@@ -58,13 +58,13 @@ impl Model for Board {
         inside.devices.items };
 }
 
-/// The board of lines, each of which is checked by the rules of a board after the lines before it.
+/// The board of lines, each of which is checked by the rules of a board, given the lines before it.
 /// `line` of a fault counts from 1.
 ///
 /// # Errors
 ///
-/// Of the first line that has a fault, the first of these that applies. `Extra`: a 17th root
-/// bridge, or a 257th function, bridges among them. `Number`: a device number over 31, a function
+/// For the first line that has a fault, the first of these that applies. `Extra`: a 17th root
+/// bridge, or a 257th function, including bridges. `Number`: a device number over 31, a function
 /// number over 7, the vendor 0xFFFF, a class over 24 bits, a secondary bus 0, a function on a bus
 /// that is not declared, a BAR or a ROM of a function that is not declared, the index of a BAR over
 /// 5 or, on a bridge, over 1, a size that is no power of two from 16 to 65,536, an address that is
@@ -126,7 +126,7 @@ impl Board {
         self.roots.as_slice()
     }
 
-    /// How many functions the board has, bridges among them. Takes no memory.
+    /// How many functions the board has, including bridges. Takes no memory.
     pub fn functions(&self) -> u32
         ensures { result ≡ length (functions self.now.lines) }
     {
@@ -218,8 +218,8 @@ impl Board {
     ///
     /// # Errors
     ///
-    /// `NoFunction` if there is no such function; else `PastEnd` if a byte lies past the 256 of
-    /// configuration space.
+    /// `NoFunction` if there is no such function; otherwise `PastEnd` if a byte lies past the 256
+    /// of configuration space.
     pub fn config_read(&self, f: u32, at: u64, n: u8) -> Result<u64, DevRefusal>
         requires { IsTrue (is_access n) }
         ensures { result ≡ config_read self.now f at n }

@@ -34,7 +34,7 @@ fn put_header(config: &mut [u8], function: &Function)
     put_bytes(config, 0x0E, &[header_type(function)]);
 }
 
-/// The header type: 1 of a bridge, 0 of another function.
+/// The header type: 1 for a bridge, 0 for another function.
 fn header_type(function: &Function) -> u8
     ensures { result ≡ (if is_some function.now.secondary then 1 else 0) }
 {

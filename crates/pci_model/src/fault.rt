@@ -5,7 +5,7 @@ ghost use Rattle.pci_model.specs.declared.fault.BoardFault.TheVariants.{OutOfMem
 use fw_types::OutOfMemory;
 use thiserror::Error;
 
-/// What is wrong with a line, after the lines before it.
+/// What is wrong with a line, given the lines before it.
 #[derive(Clone, Copy, Debug, PartialEq, Eq, Error)]
 pub enum LineFault {
     /// The board has as many root bridges, or as many functions, as it may have.
@@ -45,7 +45,7 @@ impl From<OutOfMemory> for BoardFault {
 }
 
 impl LineFault {
-    /// The fault of a board with this one on a line.
+    /// The fault of a board, for this fault on a line.
     pub(crate) fn on(self, line: u32) -> BoardFault
         ensures { result ≡ fault_on self line }
     {

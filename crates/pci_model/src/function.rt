@@ -32,7 +32,7 @@ pub struct BarRange {
     pub size: u32,
 }
 
-/// Whether two locations are one.
+/// Whether two locations are the same.
 pub fn is_at(location: Location, other: Location) -> bool
     ensures { result ≡ is_at location other }
 {

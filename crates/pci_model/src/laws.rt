@@ -26,7 +26,7 @@ pub fn locations_are_numbers()
     ensures there { IsWhereFound }
 {}
 
-/// The functions on a bus are all of them and no other.
+/// The functions that are listed for a bus are all functions on it and no others.
 pub fn buses_are_whole()
     ensures all { AmongItsBus }
     ensures only { OnlyOfBus }
@@ -37,8 +37,8 @@ pub fn roms_are_apart()
     ensures { RomIsNew }
 {}
 
-/// Which bytes a write changes: of a BAR those that it reaches, and of configuration space those of
-/// them that can be written.
+/// Which bytes a write changes: those of a BAR that it reaches, and those of configuration space
+/// that it reaches and that can be written.
 #[tactic(auto, unfolding(fw_types::specs::Layout::put))]
 pub fn writes_are_bytes()
     ensures config { ConfigByte }

@@ -2,10 +2,10 @@
 //! of its devices.
 //!
 //! A board is the list of its lines. Which function is at a location (bus, device and function
-//! number), which buses there are, which BARs a function has, are looked up in the lines; `Board`
-//! has an index for what is asked often. Beside the lines it has what drivers can change: the bytes
-//! of each function's configuration space and of its BARs. A contract sees a `Board` as these two,
-//! the record `BoardState`.
+//! number), which buses there are, and which BARs a function has, is looked up in the lines;
+//! `Board` has an index for what is asked often. It also has what drivers can change: the bytes of
+//! each function's configuration space and of its BARs. A contract sees a `Board` as these two, the
+//! record `BoardState`.
 #![tactic(auto)]
 
 mod access;

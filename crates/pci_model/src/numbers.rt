@@ -4,7 +4,7 @@
 /// The most root bridges, a limit of this project.
 pub const MOST_ROOTS: usize = 16;
 
-/// The most functions, bridges among them, a limit of this project.
+/// The most functions, including bridges, a limit of this project.
 pub const MOST_FUNCTIONS: usize = 256;
 
 /// The most bytes of a function's option ROM, a limit of this project.

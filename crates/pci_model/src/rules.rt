@@ -11,7 +11,7 @@ use crate::numbers::{
     HIGHEST_VENDOR, LARGEST_BAR, MOST_FUNCTIONS, MOST_ROOTS, SMALLEST_BAR,
 };
 
-/// What is wrong with a line after the lines before it: the first rule that it breaks. Takes no
+/// What is wrong with a line, given the lines before it: the first rule that it breaks. Takes no
 /// memory.
 #[tactic(auto, unfolding(crate::specs::BoardRules::line_fault))]
 pub fn line_fault(before: &[BoardLine], line: &BoardLine) -> Option<LineFault>
@@ -243,7 +243,7 @@ fn has_rom(lines: &[BoardLine], location: Location) -> bool
         .any(|other| is_at(other, location))
 }
 
-/// Why lines are no board: the fault of the first that has one.
+/// Why lines are no board: the fault of the first line that has one.
 pub fn board_fault(lines: &[BoardLine]) -> Option<BoardFault>
     ensures { result ≡ board_fault lines.now }
 {

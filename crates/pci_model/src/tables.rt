@@ -1,4 +1,4 @@
-//! What a board keeps beside its lines, made of them.
+//! What a board keeps next to its lines, made from them.
 ghost use Rattle.std.specs.Prelude.{◌≡◌, ◌≤◌, ◌<◌, None, IfOk, IfSome, length, map, option_copied, slice_get};
 ghost use Rattle.pci_model.specs.Ways.{leads_to};
 ghost use Rattle.std.specs.BTreeMap.{get};
@@ -35,7 +35,7 @@ pub fn function_table(alloc: Global, lines: &[BoardLine]) -> Result<Vec<Function
     )
 }
 
-/// The number of the function at each location, of functions of which no two are at one location.
+/// The number of the function at each location. No two of the functions are at one location.
 pub fn number_table(
     alloc: Global,
     functions: &[Function],

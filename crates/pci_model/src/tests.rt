@@ -65,8 +65,8 @@ fn fault_of(alloc: Global, lines: &[BoardLine]) -> Option<BoardFault> {
     board_from(alloc, lines).err()
 }
 
-/// A board with a root, a bridge, a function below it and two beside it, one of them of a bridge's
-/// class.
+/// A board with two root bridges. On the bus of the first there are a bridge and two functions, one
+/// of them of a bridge's class; a function is below the bridge.
 fn lines(alloc: Global) -> Result<Vec<BoardLine>, AllocError> {
     let mut lines = Vec::new(alloc);
     lines.push(root(7, 0))?;
@@ -90,7 +90,7 @@ fn board(rt: &impl Abort, alloc: Global) -> Result<Board, Fail> {
     Ok(board?)
 }
 
-/// Lines that are no board's after these.
+/// Lines that may not follow these.
 #[test]
 fn refused_lines(rt: HostRuntime) -> Result<(), Fail> {
     let alloc = rt.alloc();
@@ -126,7 +126,7 @@ fn refused_lines(rt: HostRuntime) -> Result<(), Fail> {
         (bar(3, 0, 0, 16), LineFault::Duplicate),
         (bar(1, 1, 0, 16), LineFault::Duplicate),
         (second_rom, LineFault::Duplicate),
-        // The first kind counts.
+        // The first fault in the order of the rules counts.
         (func((0, 3, 0), 0xFFFF, 0), LineFault::Number),
         (bar(3, 0, 8, 16), LineFault::Number),
     ];
@@ -140,7 +140,7 @@ fn refused_lines(rt: HostRuntime) -> Result<(), Fail> {
         assert_eq!(rt; fault_of(alloc, lines.as_slice()), Some(wanted));
         let _ = lines.pop();
     }
-    // The first line counts.
+    // The first line with a fault counts.
     lines.push(network(0, 3, 0))?;
     lines.push(network(0, 32, 0))?;
     assert_eq!(rt;
@@ -150,7 +150,7 @@ fn refused_lines(rt: HostRuntime) -> Result<(), Fail> {
     Ok(())
 }
 
-/// A 17th root, and a 257th function, bridges among them, whatever else is wrong with them.
+/// A 17th root, and a 257th function, including bridges, whatever else is wrong with them.
 #[test]
 fn full_boards(rt: HostRuntime) -> Result<(), Fail> {
     let alloc = rt.alloc();

@@ -1,4 +1,4 @@
--- Sections that are copied one after the other to their places give the image by places.
+-- Sections that are copied one after the other to their places give the image, byte by byte.
 use Rattle.std.proofs.Common.{◌≡◌, ◌⊎◌, ◌≤◌, ◌<◌, ◌+◌, ◌-◌, ℕ, Bool, true, false, List, ◌∷◌, ◌++◌, length, take, drop, replicate, find, slice_index, None, refl, ap, ◌∙◌, inl, inr, arith}
 use Rattle.std.specs.Option.{option_map_or}
 use Rattle.std.proofs.lemmas.List.{length-append, length-drop, length-replicate, length-take-le, get_or-take, get_or-drop, get_or_append_left, get_or-append_right}
@@ -39,7 +39,7 @@ get_or-put-after a others bytes place room past =
 
 -- ---- a section over what is under it
 
--- the byte at a place where sections lie over an image
+-- the byte at a place, if sections lie over an image
 abbrev pub byte_over : List ℕ → List SectionHeader → List ℕ → ℕ → ℕ
 byte_over bytes sections under place =
     option_map_or (λ section. slice_index bytes (file_place place section)) (find (has_copied place 1) sections) (slice_index under place)
@@ -92,7 +92,7 @@ byte_over-put bytes under section rest place room in_file apart = by_case (has_c
         ] in
         rw (has, same) refl
 
--- over the headers alone the sections give the image
+-- over the headers followed by zeros the sections give the image
 pub byte_over-start : (bytes under : List ℕ) (place : ℕ) → under ≡ headers_alone bytes → byte_over bytes (sections_of bytes) under place ≡ byte_at bytes place
 byte_over-start bytes under place e = rw e refl
 
@@ -101,7 +101,7 @@ pub plain_image-by_place : (bytes image : List ℕ) → length image ≡ (header
 unfolding plain_image
 plain_image-by_place bytes image size each = fill_by_all (byte_at bytes) image (headers_of bytes).size_of_image 0 size (λ k below. each k)
 
--- the headers alone have the size of the image
+-- the headers followed by zeros have the size of the image
 pub length-headers_alone : (bytes : List ℕ) → (headers_of bytes).size_of_headers ≤ (headers_of bytes).size_of_image → (headers_of bytes).size_of_headers ≤ length bytes → length (headers_alone bytes) ≡ (headers_of bytes).size_of_image
 unfolding headers_alone
 length-headers_alone bytes inside in_file =

@@ -27,7 +27,7 @@ drop-sections_of bytes i inside =
 pub drop-sections_of-all : (bytes : List ℕ) → drop (headers_of bytes).section_count (sections_of bytes) ≡ []
 drop-sections_of-all bytes = drop_all (headers_of bytes).section_count (sections_of bytes) (omega (arith, length-sections_of bytes))
 
--- ---- a section after what stands before it
+-- ---- a section after what comes before it
 
 -- the first of the sections from one on is misplaced
 pub any_placed-first : (misplaced : ℕ × SectionHeader → Bool) (bytes : List ℕ) (front i : ℕ) → i < (headers_of bytes).section_count

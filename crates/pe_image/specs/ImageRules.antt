@@ -112,7 +112,7 @@ rules =
 unfoldable pub refusal_of : List ℕ → Option PeRefusal
 refusal_of bytes = option_map (λ rule. rule.1) (find (λ rule. rule.0 bytes) rules)
 
--- ---- what an accepted file says of itself
+-- ---- what an accepted file says about itself
 
 -- the size of the laid image, in bytes
 abbrev pub size_of : List ℕ → ℕ

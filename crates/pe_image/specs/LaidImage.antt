@@ -15,8 +15,8 @@ headers_alone bytes =
     let headers = headers_of bytes in
     take headers.size_of_headers bytes ++ replicate (headers.size_of_image - headers.size_of_headers) 0
 
--- the byte at a place before relocation: the file's, if the copied part of a section has the place; else
--- the headers' or 0
+-- the byte at a place before relocation: the file's, if the copied part of a section has the place;
+-- otherwise the headers' byte or 0
 abbrev pub byte_at : List ℕ → ℕ → ℕ
 byte_at bytes place =
     option_map_or (λ section. slice_index bytes (file_place place section))

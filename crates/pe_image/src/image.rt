@@ -113,7 +113,7 @@ impl<'a> PeView<'a> {
         }
     }
 
-    /// The sections, in the order of the section table and as it says them (PE/COFF: Section
+    /// The sections, in the order of the section table and as it describes them (PE/COFF: Section
     /// Table).
     ///
     /// # Errors

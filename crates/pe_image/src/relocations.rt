@@ -105,7 +105,7 @@ fn is_malformed(rest: &[u8]) -> bool
     rest.len() < BLOCK_HEADER || size < BLOCK_HEADER || size % 2 == 1 || rest.len() < size
 }
 
-/// The entry that a word of a block is.
+/// The entry in a word of a block.
 pub fn block_entry(page: u32, word: u16) -> Entry
     ensures { result ≡ block_entry page word }
 {
@@ -115,7 +115,7 @@ pub fn block_entry(page: u32, word: u16) -> Entry
     }
 }
 
-/// Whether an entry is none that an image of a size may have.
+/// Whether an entry is one that an image of this size may not have.
 fn is_bad_entry(size: u32, entry: Entry) -> bool
     ensures { result ≡ is_bad_entry size entry }
 {
@@ -127,7 +127,7 @@ fn is_bad_entry(size: u32, entry: Entry) -> bool
     }
 }
 
-/// Whether one of the entries of a page is none that an image of a size may have.
+/// Whether one of the entries of a page is one that an image of this size may not have.
 fn has_bad_entry(size: u32, page: u32, words: &[u8]) -> bool
     ensures { result ≡ list_any (is_bad_entry size) (map (block_entry page) (words_in words.now)) }
 {
@@ -142,7 +142,8 @@ fn has_bad_entry(size: u32, page: u32, words: &[u8]) -> bool
     false
 }
 
-/// Whether the block at the front, or one of its entries, is none that an image of a size may have.
+/// Whether the block at the front, or one of its entries, is one that an image of this size may not
+/// have.
 fn is_bad_block(size: u32, rest: &[u8]) -> bool
     ensures { result ≡ is_bad_block size (block_of rest.now) }
 {

@@ -6,12 +6,12 @@ use crate::fields::{section_count, section_table};
 use crate::numbers::{u32_at, u64_at};
 use std::alloc::{AllocError, Global};
 
-/// A section of an image, as its header in the section table says it (PE/COFF: Section Table).
+/// A section of an image, as its header in the section table describes it (PE/COFF: Section Table).
 #[derive(Clone, Copy, Debug, PartialEq, Eq)]
 pub struct Section {
     /// The 8 bytes of its name. A shorter name ends with zeros.
     pub name: [u8; 8],
-    /// How many bytes it has in the image; if this is 0, `raw_size` says it.
+    /// How many bytes it has in the image; if this is 0, `raw_size` is that number.
     pub virtual_size: u32,
     /// Where it begins in the image.
     pub address: u32,
@@ -21,10 +21,10 @@ pub struct Section {
     pub file_offset: u32,
 }
 
-/// What the section table says of a section (PE/COFF: Section Table).
+/// What the section table says about a section (PE/COFF: Section Table).
 #[derive(Clone, Copy, Debug)]
 pub struct SectionHeader {
-    /// How many bytes it has in the image; if this is 0, `raw_size` says it.
+    /// How many bytes it has in the image; if this is 0, `raw_size` is that number.
     pub virtual_size: u32,
     /// Where it begins in the image.
     pub address: u32,

@@ -43,8 +43,8 @@ const SMALLEST: [Change; 31] = [
 ];
 
 /// What makes a relocation directory in the smallest image: the section has 24 bytes, of which the
-/// last ten from 0x208 on are the directory, with one entry in one block at page 0. The entry says
-/// 8 bytes at 0x3F8, the last of the image.
+/// last ten from 0x208 on are the directory, with one entry in one block at page 0. The entry is
+/// for the 8 bytes at 0x3F8, the last of the image.
 const DIRECTORY: [Change; 7] = [
     (0x100, 0x18),
     (0xF0, 0x08),
@@ -240,7 +240,7 @@ const RELOCATIONS: [(&[Change], Option<PeRefusal>); 29] = [
     (&[(0x20C, 0x08), (0xF4, 0x08)], None),
     (&[(0x20C, 0x09)], Some(PeRefusal::Reloc)),
     (&[(0x20C, 0x0C)], Some(PeRefusal::Reloc)),
-    // a rule on relocations comes in front of the entry point's
+    // a rule on relocations comes before that on the entry point
     (&[(0x210, 0xF9), (0x68, 0x01)], Some(PeRefusal::Reloc)),
 ];
 
@@ -304,7 +304,7 @@ fn laid_at(
 
 /// Changes of the file, a base, a place, and the 8 bytes that the laid image has there.
 const LAID: [(&[Change], u64, usize, [u8; 8]); 14] = [
-    // type 10 adds to 8 bytes, type 3 to the low 4 alone, and padding to none
+    // type 10 adds to 8 bytes, type 3 only to the low 4, and padding to none
     (&[], 0x0200_0000, 0x208, [0x10, 0x02, 0, 0x02, 0, 0, 0, 0]),
     (
         &[(0x409, 0x32)],
@@ -330,7 +330,7 @@ const LAID: [(&[Change], u64, usize, [u8; 8]); 14] = [
         0x208,
         [0x10, 0x02, 0, 0x01, 0x01, 0, 0, 0],
     ),
-    // what is added is the base less the preferred base, which wraps
+    // what is added is the base minus the preferred base, which wraps
     (
         &[(0x73, 0x01)],
         0x0200_0000,
@@ -368,7 +368,7 @@ const LAID: [(&[Change], u64, usize, [u8; 8]); 14] = [
         0x208,
         [0x10, 0x02, 0, 0x02, 0, 0x02, 0, 0],
     ),
-    // a first entry that changes the second in the image: the file's counts
+    // a first entry that changes the second one in the image: the one in the file counts
     (
         &[(0x408, 0x08), (0x409, 0x34), (0x40A, 0x08), (0x40B, 0x32)],
         0x0200_0000,

@@ -38,7 +38,7 @@ own_after interface records old new changes = changes.each interface ∙ rw (at_
 -- ---- the same records
 
 module _ (old new : Interfaces) (len : ℕ) (names : Names) (table : IsTable old len names) (interface : Interface) where
-  -- the names alone say more
+  -- only the names change, and say more
   pub table_named : (after : Names) → SaysMore names after → IsTable old len after
   table_named after more = record { ordered = table.ordered; filled = table.filled; counted = table.counted; named = λ name other some. more name other (table.named name other some) }
 
@@ -90,7 +90,7 @@ module _ (old new : Interfaces) (len : ℕ) (names : Names) (table : IsTable old
 
   -- ---- one more record
 
-  -- what names a handle among one record more
+  -- what names a handle among the records with one more
   module _ (rec : Rec) (after : Names) (more : SaysMore names after) (agent : covers after rec.agent interface ≡ true) (controller : covers after rec.controller interface ≡ true) where
     by_one : (name : ℕ) → (list_any (is_named name) (records_at old interface) ≡ true) ⊎ (is_named name rec ≡ true) → covers after name interface ≡ true
     by_one name (inl some) = more name interface (table.named name interface some)

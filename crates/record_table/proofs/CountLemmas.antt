@@ -25,7 +25,7 @@ changed_where interface test f one = elim (cases_Bool (is_on interface one)) [
   | inr off ↦ rw off refl
 ]
 
--- where none passes, none changes
+-- if none passes, none changes
 pub map_none : (p : KeyedRecord → Bool) (f : KeyedRecord → KeyedRecord) (entries : List KeyedRecord) → list_any p entries ≡ false → map (λ (one : KeyedRecord). if p one then f one else one) entries ≡ entries
 map_none p f [] none = refl
 map_none p f (one ∷ entries) none = let parts = or_parts (p one) (list_any p entries) none in rw parts.0 (ap (λ l. one ∷ l) (map_none p f entries parts.1))

@@ -43,7 +43,7 @@ on_other interface other one on = of_is_eq other.0 other.1 one ∙ ap (λ i. is_
 -- ---- the records of one interface
 
 module _ (interface : Interface) where
-  -- a test that all records of the interface answer alike
+  -- a test that gives the same answer for all records of the interface
   pub row_filter : (p : KeyedRecord → Bool) (b : Bool) → ((rec : Rec) → p (keyed interface rec) ≡ b) → (records : List Rec) → filter p (map (keyed interface) records) ≡ (if b then map (keyed interface) records else [])
   row_filter p true all [] = refl
   row_filter p false all [] = refl

@@ -39,7 +39,7 @@ module _ (old new : Interfaces) (named : set.BTreeSet Naming) (interface : Inter
   known_entered (Ok x) ok err = known_put ok
   known_entered (Err e) ok err = known_same old new named err all
 
--- an interface's list goes
+-- an interface's list is removed
 module _ (old new : Interfaces) (named : set.BTreeSet Naming) (interface : Interface) (all : IsKnown old named) (updates : tree.UpdatesBy interface_cmp (interface_cmp interface) old new None) where
   none_here : (other : Interface) → tree.is_at (interface_cmp interface) other ≡ true → (number : ℕ) → list_any (is_named number) (records_at new other) ≡ false
   none_here other at number = let own : tree.get interface_cmp new other ≡ None = updates.0 other ∙ rw at refl in ap (λ (o : Option (List Rec)). list_any (is_named number) (records_in o)) own
@@ -77,10 +77,10 @@ known_none known named none interface number has =
 pub known_there : (known : Interfaces) (named : set.BTreeSet Naming) → IsKnown known named → (interface : Interface) (had : List Rec) → Some had ≡ tree.get interface_cmp known interface → (records : List Rec) → NamesAll records had → AreThere records interface named
 known_there known named all interface had is records same name some = all interface name (ap (λ (o : Option (List Rec)). list_any (is_named name) (records_in o)) (sym is) ∙ same name some)
 
--- ---- numbers that go
+-- ---- numbers that are removed
 
 module _ (interfaces : Interfaces) where
-  -- a number goes that no record of the interface names
+  -- a number that no record of the interface names is removed
   pub stale_goes : (old new : set.BTreeSet Naming) (name : ℕ) (interface : Interface) → list_any (is_named name) (records_at interfaces interface) ≡ false → OthersStay (name, interface) old new → NamedStay interfaces old new
   stale_goes old new name interface stale others q some is = elim (cases_Bool (tree.is_at (naming_cmp (name, interface)) q)) [
     | inl at ↦

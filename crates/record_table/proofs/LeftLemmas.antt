@@ -1,4 +1,4 @@
--- The records of each interface, where some of one are left out.
+-- The records of each interface, if some of one interface are left out.
 use Rattle.std.proofs.Common.{◌≡◌, ℕ, Bool, true, false, not, ◌&&◌, List, filter, map, refl, sym, ap, ◌∙◌}
 use Rattle.interface_records.specs.declared.open_record.Rec.{Rec}
 use Rattle.record_table.specs.Keyed.{is_of, is_same, records_of}

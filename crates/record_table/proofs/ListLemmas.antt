@@ -119,7 +119,8 @@ any_at p [] i d within none = absurd (omega arith)
 any_at p (x ∷ xs) zero d within none = (or_parts (p x) (list_any p xs) none).0
 any_at p (x ∷ xs) (suc i) d within none = any_at p xs i d (omega arith) (or_parts (p x) (list_any p xs) none).1
 
--- where a list parts by a test, as many pass it as stand before
+-- if those that pass a test come first in a list, as many pass as are before the place that parts
+-- them
 pub count_parted : {X : Type 0} (p : X → Bool) (xs : List X) (i : ℕ) → i ≤ length xs → IsPartitionPoint (λ y. p y ≡ true) (λ y. p y ≡ false) xs i → i ≡ length (filter p xs)
 count_parted p [] i within point = omega arith
 count_parted p (x ∷ xs) zero within point =

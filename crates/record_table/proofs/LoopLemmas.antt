@@ -1,4 +1,4 @@
--- Records that go interface by interface.
+-- Records that are removed interface by interface.
 use Rattle.std.proofs.Common.{◌≡◌, ◌≤◌, ◌<◌, ℕ, Bool, true, false, not, ◌&&◌, ◌||◌, nat_eq, List, [], ◌∷◌, length, filter, Option, Some, None, MatchOption, refl, sym, ap, ◌∙◌, inl, inr, arith}
 use Rattle.std.specs.declared.cmp.Ordering.{Ordering}
 use Rattle.std.specs.declared.cmp.Ordering.TheVariants.{Less, Equal, Greater}
@@ -33,7 +33,7 @@ pub filter_stays : (p : KeyedRecord → Bool) (xs : List KeyedRecord) → list_a
 filter_stays p [] none = refl
 filter_stays p (x ∷ xs) none = let parts = or_parts (p x) (list_any p xs) none in rw parts.0 (ap (λ l. x ∷ l) (filter_stays p xs parts.1))
 
--- records that go are not counted twice
+-- records that are removed are not counted twice
 pub filter_goes : (goes chosen : KeyedRecord → Bool) (xs : List KeyedRecord) → ((x : KeyedRecord) → goes x ≡ true → chosen x ≡ true) → filter (λ x. not (chosen x)) (filter (λ x. not (goes x)) xs) ≡ filter (λ x. not (chosen x)) xs
 filter_goes goes chosen xs implies =
     filter_both (λ x. not (goes x)) (λ x. not (chosen x)) (λ x. not (chosen x)) xs (λ x. by_bool (goes x) (chosen x) (implies x))
@@ -59,7 +59,7 @@ any_turned p q xs some = any_same (λ x. q x && p x) (λ x. p x && q x) xs (λ x
     turned false true = refl
     turned false false = refl
 
--- where none of an interface's records is meant, none goes
+-- if none of an interface's records is meant, none is removed
 pub none_goes_here : (owner : ℕ) (guid : List ℕ) (test : Rec → Bool) (mine : KeyedRecord → Bool) (entries : List KeyedRecord) → list_any test (records_of entries owner guid) ≡ false
     → list_any (λ (one : KeyedRecord). is_of owner guid one && (mine one && test one.rec)) entries ≡ false
 none_goes_here owner guid test mine entries none =
@@ -123,7 +123,7 @@ second_part p q (x ∷ xs) some = elim (cases_Bool (q x)) [
     drop_first true b off some = rw off at some
     drop_first false b off some = some
 
--- the walk goes on after the records of an interface have gone
+-- the walk goes on after the records of an interface have been removed
 module _ (chosen : KeyedRecord → Bool) (past : Interface) (entries : List KeyedRecord) (cursor : IsCursor chosen past entries) where
   abbrev goes : KeyedRecord → Bool
   goes one = is_on past one && chosen one
@@ -195,7 +195,7 @@ cursor_of_first chosen entries (Some interface) first = record {
     and_away true b is = is
     and_away false b is = refl
 
--- ---- past interfaces where none is chosen
+-- ---- past interfaces of which no record is chosen
 
 pub none_each : (p : KeyedRecord → Bool) (xs : List KeyedRecord) → ((x : KeyedRecord) → p x ≡ false) → list_any p xs ≡ false
 none_each p [] none = refl
@@ -264,7 +264,7 @@ handle_after owner guid handle x same above =
     let is : x.handle ≡ handle = eqb-true x.handle handle same in
     gt_numbers x.handle owner (slice_cmp nat_cmp x.guid guid) (omega (arith, is))
 
--- past the interfaces of a handle no record of it is left
+-- past the interfaces of a handle there is no record of it left
 pub none_past : (handle owner : ℕ) (guid : List ℕ) (test : KeyedRecord → Bool) (entries : List KeyedRecord) → handle < owner → IsCursor (λ (one : KeyedRecord). nat_eq one.handle handle && test one) (owner, guid) entries
     → list_any (λ (one : KeyedRecord). nat_eq one.handle handle && test one) entries ≡ false
 none_past handle owner guid test entries below cursor =
@@ -325,7 +325,7 @@ match_none found P Q is holds = rw is at holds
 pub cursor_at : (chosen : KeyedRecord → Bool) (from : Interface) (entries : List KeyedRecord) (at : Option Interface) → at ≡ Some from → IsAt chosen at entries → IsCursor chosen from entries
 cursor_at chosen from entries at is so_far = rw is at so_far
 
--- the records that are not chosen stay, where only chosen ones go
+-- the records that are not chosen stay, if only chosen ones are removed
 pub stays_by : (goes chosen : KeyedRecord → Bool) (entries after : List KeyedRecord) → ((x : KeyedRecord) → goes x ≡ true → chosen x ≡ true) → after ≡ filter (λ (one : KeyedRecord). not (goes one)) entries
     → filter (λ (one : KeyedRecord). not (chosen one)) after ≡ filter (λ (one : KeyedRecord). not (chosen one)) entries
 stays_by goes chosen entries after implies is = ap (filter (λ (one : KeyedRecord). not (chosen one))) is ∙ filter_goes goes chosen entries implies

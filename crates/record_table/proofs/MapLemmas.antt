@@ -90,7 +90,7 @@ module _ (interface : Interface) (old new : Interfaces) (updates : tree.UpdatesB
     | inr away ↦ rw away (all other away)
   ]
 
--- where the interface has a record, all have
+-- if the interface has a record, all have
 pub kept_filled : (interface : Interface) (old : Interfaces) → (length (records_at old interface) ≡ 0 → ⊥) → OthersFilled interface old → AllFilled old
 kept_filled interface old some all other = elim (cases_Bool (tree.is_at (interface_cmp interface) other)) [
   | inl at ↦ ap (λ (i : Interface). is_filled (tree.get interface_cmp old i)) (sym (same_interface interface other at)) ∙ by_found (tree.get interface_cmp old interface) some

@@ -66,7 +66,7 @@ interface_up x y same low =
     let equal : nat_cmp x.0 y.0 ≡ Equal = ap (nat_cmp x.0) (sym same) ∙ cmp-self x.0 in
     rw equal at low
 
--- what a range says of its first key
+-- what a range says about its first key
 pub first_is : {X : Type 0} (P : X → Type 0) (range : List X) (x : X) (later : List X) → range ≡ x ∷ later → IfSome (slice_get range 0) P → P x
 first_is P range x later is first = rw is at first
 
@@ -111,7 +111,7 @@ module _ (name : ℕ) (from : Interface) (names : Names) where
       by_lt true lower = record { from_on = second.from_on; first = λ interface low before. not_said interface (first.first interface low (lt_le_trans interface other one before lower)) (second.first interface low before) }
       by_lt false higher = record { from_on = first.from_on; first = λ interface low before. not_said interface (first.first interface low before) (second.first interface low (lt_le interface one other before higher)) }
 
-  -- among those that were put back as a whole
+  -- among the interfaces that were put back as a whole
   and_left : (a b : Bool) → a ≡ false → (a && b) ≡ false
   and_left true b is = absurd cc
   and_left false b is = refl
@@ -124,14 +124,14 @@ module _ (name : ℕ) (from : Interface) (names : Names) where
   returned_by None none = λ interface low. and_left (set.contains interface_cmp names.returned interface) (is_open names name) (none interface low)
   returned_by (Some x) first = record { from_on = first.from_on; first = λ interface low before. and_left (set.contains interface_cmp names.returned interface) (is_open names name) (first.first interface low before) }
 
-  -- none of them tells more of this handle
+  -- they say no more about this handle
   pub none_open : is_open names name ≡ false → NoneReturned name from names
   none_open shut interface low = and_right (set.contains interface_cmp names.returned interface) (is_open names name) shut
 
   above : names.largest < name → nat_le name names.largest ≡ false
   above more = grind (arith, nat_tests, more)
 
-  -- none of them names a larger number
+  -- none of them names so large a number
   pub none_above : names.largest < name → NoneReturned name from names
   none_above more = none_open (and_left (nat_le name names.largest) (not (is_asked name names.asked)) (above more))
 
@@ -147,7 +147,7 @@ module _ (old new : set.BTreeSet Naming) where
   pub stay_same : new.keys ≡ old.keys → AllStay old new
   stay_same same q is = ap (list_any (λ (k : Naming). tree.is_at (naming_cmp q) k)) same ∙ is
 
--- what may be named where no entry says so, still may
+-- what may be named although no entry says so, still may
 abbrev pub StaysOpen : (old new : Names) → Type 0
 StaysOpen old new = (name : ℕ) → is_open old name ≡ true → is_open new name ≡ true
 
@@ -183,7 +183,7 @@ module _ (old new : Names) (opens : StaysOpen old new) where
   pub says_by : AllStay old.named new.named → ((q : Interface) → set.contains interface_cmp old.returned q ≡ true → set.contains interface_cmp new.returned q ≡ true) → SaysMore old new
   says_by entries wholes name interface said = said_by name interface (entries (name, interface)) (wholes interface) said
 
-  -- one less of those that were put back as a whole
+  -- one fewer of those that were put back as a whole
   pub says_removed : AllStay old.named new.named → (interface : Interface) → set.Updates interface_cmp old.returned new.returned interface false → SaysMoreElsewhere interface old new
   says_removed entries interface updates name other away said = said_by name other (entries (name, other)) (λ is. updates.2 other away ∙ is) said
 
@@ -199,7 +199,7 @@ opens_more old new more none name is =
 pub covered_by : (names : Names) (name : ℕ) (interface : Interface) → set.contains naming_cmp names.named (name, interface) ≡ true → covers names name interface ≡ true
 covered_by names name interface is = rw is refl
 
--- an interface with whatever records that name no larger number
+-- an interface with any records that name no larger number
 pub covered_up_to : (names : Names) (name : ℕ) (interface : Interface) → set.contains interface_cmp names.returned interface ≡ true → name ≤ names.largest → names.asked ≡ None → covers names name interface ≡ true
 covered_up_to names name interface is within none =
     by_whole names names name interface is (and_from (nat_le name names.largest) (not (is_asked name names.asked)) (test within) (ap (λ (o : Option ℕ). not (is_asked name o)) none))
@@ -236,7 +236,7 @@ module _ (interfaces : Interfaces) where
     | inr away ↦ said_by old new opens name other (entries (name, other)) (λ is. updates.2 other away ∙ is) (all name other some)
   ]
 
-  -- where none was put back as a whole, their largest number does not matter
+  -- if none was put back as a whole, the largest number does not matter
   pub emptied : (old new : Names) → AllStay old.named new.named → old.returned.keys ≡ [] → StillNamed interfaces old new
   emptied old new stay none all name interface some =
       said_if old new name interface (λ is. by_entry old new name interface (stay (name, interface) is))
@@ -245,7 +245,7 @@ module _ (interfaces : Interfaces) where
       absurd (both_ways (set.contains interface_cmp old.returned interface) no_key is))
       (all name interface some)
 
-  -- all that they say of a handle is entered
+  -- all that they say about a handle is entered
   pub all_asked : (old new : Names) (name : ℕ) → AllStay old.named new.named → AreEntered name old.returned interfaces new.named → new.returned.keys ≡ old.returned.keys → new.largest ≡ old.largest → new.asked ≡ Some name → StillNamed interfaces old new
   all_asked old new name stay entered same largest asked all other interface some =
       said_if old new other interface (λ is. by_entry old new other interface (stay (other, interface) is)) (λ is may. by_name is may (cases_Bool (nat_eq other name))) (all other interface some)

@@ -1,4 +1,4 @@
--- How interfaces stand to each other.
+-- The order of two interfaces.
 use Rattle.std.proofs.Common.{◌≡◌, ℕ, zero, suc, Bool, true, false, not, ◌&&◌, nat_eq, List, [], ◌∷◌, get_or, refl, sym, ap, ◌∙◌, bytes_eq, arith}
 use Rattle.std.specs.List.{list_any}
 use Rattle.std.specs.Cmp.{IsTotalOrder}
@@ -34,20 +34,20 @@ flipped x y = ap is_lt (total.antisymm x y) ∙ lt-reverse (key_order y x)
 pub before_is_after : (one new : KeyedRecord) → is_before one.handle one.guid new ≡ is_after new.handle new.guid one
 before_is_after one new = flipped (new.handle, new.guid) (one.handle, one.guid)
 
--- what is not before an interface stays so later
+-- if a record is not before an interface, no later record is
 pub before_later : (handle : ℕ) (guid : List ℕ) (one later : KeyedRecord) → falls one later ≡ false → is_before handle guid one ≡ false → is_before handle guid later ≡ false
 before_later handle guid one later rises fails =
     let up : is_gt (key_order (one.handle, one.guid) (later.handle, later.guid)) ≡ false = sym (flipped (later.handle, later.guid) (one.handle, one.guid)) ∙ rises in
     let from : is_gt (key_order (handle, guid) (one.handle, one.guid)) ≡ false = sym (flipped (one.handle, one.guid) (handle, guid)) ∙ fails in
     flipped (later.handle, later.guid) (handle, guid) ∙ upto total (handle, guid) (one.handle, one.guid) (later.handle, later.guid) from up
 
--- what is after an interface too
+-- and if it is after the interface, so is each later record
 pub after_later : (handle : ℕ) (guid : List ℕ) (one later : KeyedRecord) → falls one later ≡ false → is_after handle guid one ≡ true → is_after handle guid later ≡ true
 after_later handle guid one later rises holds =
     let up : is_gt (key_order (one.handle, one.guid) (later.handle, later.guid)) ≡ false = sym (flipped (later.handle, later.guid) (one.handle, one.guid)) ∙ rises in
     true_from_ne_false (is_after handle guid later) (λ fails. both_ways (is_after handle guid one) (upto total (one.handle, one.guid) (later.handle, later.guid) (handle, guid) up fails) holds)
 
--- ---- the three ways to stand
+-- ---- the three cases of the order
 
 pub eq-nat_cmp : (x y : ℕ) (o : Ordering) → is_eq (ordering_then (nat_cmp x y) o) ≡ (nat_eq x y && is_eq o)
 eq-nat_cmp x y o = grind (arith, nat_tests)
@@ -128,7 +128,7 @@ same_from_of handle guid one holds =
     let parts = and_parts (nat_eq one.handle handle) (bytes_eq one.guid guid) holds in
     record { same_handle = eqb-true one.handle handle parts.0; same_guid = (bytes_eq-Decides one.guid guid).0 parts.1 }
 
--- ---- where a rising list parts
+-- ---- the place at which a rising list parts
 
 parted_at : (p : KeyedRecord → Bool) (one : KeyedRecord) (entries : List KeyedRecord) → list_any (falls one) entries ≡ false → ((one later : KeyedRecord) → falls one later ≡ false → p one ≡ false → p later ≡ false) → IsPartitionedBy p entries → IsPartitionedBy p (one ∷ entries)
 parted_at p one entries none stays rest zero zero d order within holds = holds

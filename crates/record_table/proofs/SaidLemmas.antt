@@ -1,4 +1,4 @@
--- What the names say where records are entered.
+-- What the names say as records are entered.
 use Rattle.std.proofs.Common.{◌≡◌, ◌<◌, ◌+◌, ◌++◌, ℕ, Bool, true, false, ◌||◌, nat_eq, List, [], ◌∷◌, get_or, length, take, sym, ap, refl, ◌∙◌, inl, inr}
 use Rattle.std.specs.List.{list_any}
 use Rattle.std.proofs.lemmas.Bool.{cases_Bool, eqb-true, eq-eqb}
@@ -11,7 +11,7 @@ use Rattle.record_table.specs.Names.{covers}
 use Rattle.record_table.specs.declared.names.Names.{Names}
 use Rattle.record_table.proofs.NamingLemmas.{or_right}
 
--- what a record names is said where its agent and its controller are
+-- what a record names is said if it is said for its agent and its controller
 pub own_named : (names : Names) (rec : Rec) (interface : Interface) → covers names rec.agent interface ≡ true → covers names rec.controller interface ≡ true → (name : ℕ) → is_named name rec ≡ true → covers names name interface ≡ true
 own_named names rec interface agent controller name named = elim (cases_Bool (nat_eq rec.agent name)) [
   | inl same ↦ ap (λ (n : ℕ). covers names n interface) (sym (eqb-true rec.agent name same)) ∙ agent

@@ -25,6 +25,6 @@ split_at (Some before) rec (x ∷ xs) = elim (cases_Bool (is_by before x)) [
       record { front = x ∷ later.front; back = later.back; was = ap (λ l. x ∷ l) later.was; is = rw away (ap (λ l. x ∷ l) later.is) }
 ]
 
--- where a record was put in there is one
+-- after a record was put in there is one
 pub filled_again : (taken : Taken) (records : List Rec) → is_filled (Some (put_again taken records)) ≡ true
 filled_again taken records = let split = split_at taken.before taken.rec records in filled_from (put_again taken records) (omega (arith, ap length split.is, length-append split.front (taken.rec ∷ split.back)))

@@ -124,6 +124,6 @@ any_mapped p f same (x ∷ xs) some = elim (cases_Bool (p x)) [
   | inr fails ↦ let out : p (f x) ≡ false = same x ∙ fails in let later : list_any p (map f xs) ≡ true = rw out at some in rw fails (any_mapped p f same xs later)
 ]
 
--- where there are no records, none are listed
+-- if there are no records, none are listed
 pub lists_none : (test : Rec → Bool) (openers : List Opener) (records : List Rec) → openers ≡ [] → records ≡ [] → Lists openers test records
 lists_none test openers records none empty = rw (none, empty) (record { only = λ rec is. absurd cc; all = refl })

@@ -56,9 +56,9 @@ module _ (old new : Interfaces) (up : ascend old.entries ≡ true) (interface : 
     records_here new changes.ordered interface ∙ own_after interface (lasting (records_at old interface)) old new changes ∙ ap lasting (sym is),
   )
 
--- ---- the weak records go, or none does
+-- ---- the weak records are removed, or none is
 
--- whether a record goes
+-- whether a record is removed
 abbrev pub goes_weak : (go : Bool) → Rec → Bool
 goes_weak go rec = go && has_bits WEAK_BITS rec
 

@@ -1,4 +1,4 @@
--- All records, where one interface has other records than before.
+-- All records, if one interface has other records than before.
 use Rattle.std.proofs.Common.{◌≡◌, ◌+◌, ℕ, Bool, true, false, not, ◌&&◌, ◌||◌, List, [], ◌∷◌, ◌++◌, length, filter, find, map, is_some, option_map, refl, sym, subst, ap, ◌∙◌, inl, inr, append_assoc, length-append, arith, if◌then◌else◌}
 use Rattle.std.specs.List.{list_any}
 use Rattle.std.specs.Ordering.{is_lt}
@@ -91,7 +91,7 @@ module _ (handle : ℕ) (guid : List ℕ) (entries : List KeyedRecord) (rising :
       let all : length entries ≡ length (front ++ (mine ++ back)) = ap length (three_parts handle guid entries rising) in
       omega (arith, all, length-append front (mine ++ back), length-append mine back, length-append front (map (keyed here) records ++ back), length-append (map (keyed here) records) back, length-map records (keyed here), length-map mine (λ (one : KeyedRecord). one.rec))
 
-  -- the records of before
+  -- the records from before
   pub with_same : with_interface handle guid (records_of entries handle guid) entries ≡ entries
   with_same = ap (λ l. front ++ (l ++ back)) (sym (of_records handle guid entries)) ∙ sym (three_parts handle guid entries rising)
 
@@ -109,7 +109,7 @@ with_again handle guid entries rising records others =
       | inr away ↦ with_elsewhere handle guid first up records (h, g) away ∙ with_elsewhere handle guid entries rising others (h, g) away ∙ sym (with_elsewhere handle guid entries rising records (h, g) away)
     ])
 
--- one record more, after the others
+-- one more record, after the others
 pub with_pushed : (one : KeyedRecord) (entries : List KeyedRecord) → with_interface one.handle one.guid (records_of entries one.handle one.guid ++ one.rec ∷ []) entries ≡ with_new one entries
 with_pushed one entries =
     let here : Interface = interface_of one in

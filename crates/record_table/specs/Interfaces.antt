@@ -73,7 +73,7 @@ AllFilled interfaces = (interface : Interface) → is_filled (tree.get interface
 abbrev pub OthersFilled : Interface → Interfaces → Type 0
 OthersFilled interface interfaces = (other : Interface) → tree.is_at (interface_cmp interface) other ≡ false → is_filled (tree.get interface_cmp interfaces other) ≡ true
 
--- an interface has these records, and all others have those of before
+-- an interface has these records, and all others have the same as before
 abbrev pub Differs : Interface → List Rec → (old new : Interfaces) → Type 0
 Differs interface records old new = (other : Interface) → records_at new other ≡ (if tree.is_at (interface_cmp interface) other then records else records_at old other)
 
@@ -104,7 +104,7 @@ pub record IsNext (past interface : Interface) (interfaces : Interfaces) : Type 
   pub after : is_lt (interface_cmp past interface) ≡ true
   pub first : (other : Interface) → is_lt (interface_cmp past other) ≡ true → is_lt (interface_cmp other interface) ≡ true → is_there interfaces other ≡ false
 
--- no interface that is there does not come before another
+-- every interface that is there comes before another
 abbrev pub NoneFrom : Interface → Interfaces → Type 0
 NoneFrom from interfaces = (other : Interface) → is_lt (interface_cmp other from) ≡ false → is_there interfaces other ≡ false
 

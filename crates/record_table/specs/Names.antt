@@ -1,5 +1,5 @@
--- Which interfaces may have records that name a handle. The code finds the records of a handle by it; it may say of more
--- interfaces than have any.
+-- Which interfaces may have records that name a handle. The code uses this to find the records of a handle. It may list
+-- more interfaces than really have such records.
 use Rattle.std.specs.Prelude.{◌≡◌, ℕ, Bool, true, false, ◌&&◌, ◌||◌, not, nat_eq, nat_le, length, Option, Some, None}
 use Rattle.std.specs.List.{list_any}
 use Rattle.std.specs.Ordering.{is_lt}
@@ -15,7 +15,8 @@ abbrev pub is_asked : ℕ → Option ℕ → Bool
 is_asked name None = false
 is_asked name (Some asked) = nat_eq name asked
 
--- whether records of interfaces that were put back as a whole may name a handle although no entry says so
+-- whether the interfaces whose records were put back as a whole may have records that name a handle, although no entry
+-- says so
 abbrev pub is_open : Names → ℕ → Bool
 is_open names name = nat_le name names.largest && not (is_asked name names.asked)
 
@@ -27,7 +28,7 @@ may_name names name interface = set.contains interface_cmp names.returned interf
 abbrev pub covers : Names → ℕ → Interface → Bool
 covers names name interface = set.contains naming_cmp names.named (name, interface) || may_name names name interface
 
--- what is said is still said
+-- whatever the names say is still said
 abbrev pub SaysMore : (old new : Names) → Type 0
 SaysMore old new = (name : ℕ) (interface : Interface) → covers old name interface ≡ true → covers new name interface ≡ true
 
@@ -40,22 +41,22 @@ SaysMoreElsewhere interface old new =
 abbrev pub NoneNamed : ℕ → Interface → Names → Type 0
 NoneNamed name from names = (interface : Interface) → is_lt (interface_cmp interface from) ≡ false → covers names name interface ≡ false
 
--- none that comes before this one may
+-- no interface before this one may have such records
 pub record IsFirstNamed (name : ℕ) (from found : Interface) (names : Names) : Type 0 where
   pub from_on : is_lt (interface_cmp found from) ≡ false
   pub first : (interface : Interface) → is_lt (interface_cmp interface from) ≡ false → is_lt (interface_cmp interface found) ≡ true → covers names name interface ≡ false
 
--- it is said of each interface that has them
+-- the names list each interface that has such records
 abbrev pub AreNamed : Names → Interfaces → Type 0
 AreNamed names interfaces = (name : ℕ) (interface : Interface) → list_any (is_named name) (records_at interfaces interface) ≡ true → covers names name interface ≡ true
 
--- if it was said of each interface that has them, it still is
+-- if the names listed each interface that has such records, they still do
 abbrev pub StillNamed : Interfaces → (old new : Names) → Type 0
 StillNamed interfaces old new = AreNamed old interfaces → AreNamed new interfaces
 
 -- ---- the two parts
 
--- none of some interfaces comes from another on
+-- each of some interfaces comes before another
 abbrev pub NoneIn : Interface → set.BTreeSet Interface → Type 0
 NoneIn from interfaces = (interface : Interface) → is_lt (interface_cmp interface from) ≡ false → set.contains interface_cmp interfaces interface ≡ false
 
@@ -64,18 +65,19 @@ pub record IsFirstIn (from found : Interface) (interfaces : set.BTreeSet Interfa
   pub from_on : is_lt (interface_cmp found from) ≡ false
   pub first : (interface : Interface) → is_lt (interface_cmp interface from) ≡ false → is_lt (interface_cmp interface found) ≡ true → set.contains interface_cmp interfaces interface ≡ false
 
--- none of those that were put back as a whole may have records that name a handle, and does not come before another
+-- no interface that was put back as a whole, and does not come before another, may have records that name a handle
 abbrev pub NoneReturned : ℕ → Interface → Names → Type 0
 NoneReturned name from names = (interface : Interface) → is_lt (interface_cmp interface from) ≡ false → may_name names name interface ≡ false
 
--- none of them that comes before this one may
+-- no such interface before this one may have them
 pub record IsFirstReturned (name : ℕ) (from found : Interface) (names : Names) : Type 0 where
   pub from_on : is_lt (interface_cmp found from) ≡ false
   pub first : (interface : Interface) → is_lt (interface_cmp interface from) ≡ false → is_lt (interface_cmp interface found) ≡ true → may_name names name interface ≡ false
 
 -- ---- the table
 
--- The interfaces rise, and each has a record. The number is that of all records, and the names say of each record that it is there.
+-- The interfaces rise, and each has a record. The number is that of all records, and the names list each interface with
+-- a record under the handles that the record names.
 pub record IsTable (interfaces : Interfaces) (len : ℕ) (names : Names) : Type 0 where
   pub ordered : ascend interfaces.entries ≡ true
   pub filled : AllFilled interfaces

@@ -52,13 +52,13 @@ NamedStay interfaces old new =
 abbrev pub NoEntry : ℕ → Interface → set.BTreeSet Naming → Type 0
 NoEntry name from named = (interface : Interface) → is_lt (interface_cmp interface from) ≡ false → set.contains naming_cmp named (name, interface) ≡ false
 
--- none that comes before this one has
+-- none that comes before this one has such an entry
 pub record IsFirstEntry (name : ℕ) (from found : Interface) (named : set.BTreeSet Naming) : Type 0 where
   pub from_on : is_lt (interface_cmp found from) ≡ false
   pub first : (interface : Interface) → is_lt (interface_cmp interface from) ≡ false → is_lt (interface_cmp interface found) ≡ true → set.contains naming_cmp named (name, interface) ≡ false
 
 -- ---- what is known to be there
 
--- of some interfaces records whose names are there with the interface
+-- for some interfaces: records whose names are there with the interface
 abbrev pub IsKnown : tree.BTreeMap Interface (List Rec) → set.BTreeSet Naming → Type 0
 IsKnown known named = (interface : Interface) → AreThere (records_at known interface) interface named

@@ -7,7 +7,8 @@ use Rattle.record_table.specs.Keyed.{is_after, is_before, records_of}
 use Rattle.record_table.specs.Interfaces.{Interface, interface_cmp, is_on}
 use Rattle.record_table.specs.declared.open_record.KeyedRecord.{KeyedRecord}
 
--- its interface has no equal record, and if the record has BY_DRIVER or EXCLUSIVE, no other that has
+-- its interface has no equal record, and if the record has BY_DRIVER or EXCLUSIVE, no other record
+-- that has one of them
 abbrev pub IsNew : KeyedRecord → List KeyedRecord → Type 0
 IsNew one entries = here.IsNew one.rec (records_of entries one.handle one.guid)
 

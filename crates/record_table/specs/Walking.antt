@@ -6,17 +6,17 @@ use Rattle.record_table.specs.Keyed.{is_before}
 use Rattle.record_table.specs.Interfaces.{Interface, interface_cmp, is_on}
 use Rattle.record_table.specs.declared.open_record.KeyedRecord.{KeyedRecord}
 
--- an interface that has a record, before which no record is of a handle
+-- an interface that has a record, such that no record of an earlier interface is of a handle
 pub record IsStartOf (handle : ℕ) (interface : Interface) (entries : List KeyedRecord) : Type 0 where
   pub has : list_any (is_on interface) entries ≡ true
   pub none : list_any (λ (one : KeyedRecord). nat_eq one.handle handle && is_before interface.0 interface.1 one) entries ≡ false
 
--- an interface that has a record, before which no record is chosen
+-- an interface that has a record, such that no record of an earlier interface is chosen
 pub record IsCursor (chosen : KeyedRecord → Bool) (interface : Interface) (entries : List KeyedRecord) : Type 0 where
   pub has : list_any (is_on interface) entries ≡ true
   pub none : list_any (λ (one : KeyedRecord). chosen one && is_before interface.0 interface.1 one) entries ≡ false
 
--- no record is chosen that is not to come
+-- every record that is chosen is still to come
 abbrev pub IsAt : (KeyedRecord → Bool) → Option Interface → List KeyedRecord → Type 0
 IsAt chosen None entries = list_any chosen entries ≡ false
 IsAt chosen (Some interface) entries = IsCursor chosen interface entries

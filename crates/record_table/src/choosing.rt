@@ -15,7 +15,7 @@ pub trait Test: Drop {
         ensures { result ≡ chosen self.now one.now };
 }
 
-/// Of the records of an interface those that pass a test.
+/// The records of an interface that pass a test.
 #[derive(Drop)]
 pub struct OnInterface<'a, T> {
     pub handle: Handle,

@@ -197,7 +197,8 @@ pub fn put_at(
     Ok(())
 }
 
-/// Takes out the weak records of an interface as one, if that can be, and answers all that it had.
+/// Takes out the weak records of an interface as one, if possible, and answers all the records that
+/// it had.
 pub fn take_weak_at(
     interfaces: &mut Interfaces,
     handle: Handle,
@@ -225,7 +226,8 @@ fn take_weak_there(interfaces: &mut Interfaces, interface: Interface) -> Option<
     }
 }
 
-/// Makes ready that the weak records of an interface can go as one, if that is worth it: `going` go now.
+/// Prepares to take out the weak records of an interface as one, if that is worth it. `going` of
+/// them are taken out now.
 pub fn prepare_at(interfaces: &mut Interfaces, interface: Interface, going: usize)
     ensures { Changes interface (records_at interfaces.old interface) interfaces.old interfaces.new }
 {
@@ -234,7 +236,7 @@ pub fn prepare_at(interfaces: &mut Interfaces, interface: Interface, going: usiz
     }
 }
 
-/// Puts in the weak records of an interface again, with all that it had.
+/// Puts in the weak records of an interface again, with all the records that it had.
 pub fn put_weak_at(
     alloc: Global,
     interfaces: &mut Interfaces,

@@ -18,7 +18,7 @@ use std::ops::Bound;
 /// How many records may be named one by one when they are put in as a whole.
 const MOST_NAMED: usize = 96;
 
-/// Which interfaces may have records that name a handle. There are at least those that have.
+/// Which interfaces may have records that name a handle. These include at least those that have such records.
 #[derive(Drop)]
 pub struct Names {
     /// The interfaces that have had a record which names the handle.
@@ -27,12 +27,12 @@ pub struct Names {
     pub returned: BTreeSet<Interface>,
     /// The largest number that these named when they were put back.
     pub largest: u64,
-    /// A number of which each record is entered that one of these has.
+    /// A number, of which each record that one of these has is entered.
     pub asked: Option<u64>,
 }
 
 impl Names {
-    /// None.
+    /// No names.
     pub fn new(alloc: Global) -> Names
         ensures { (name : ℕ) (interface : InterfaceValue) → covers result name interface ≡ false }
     {
@@ -53,7 +53,7 @@ impl Names {
         self.named.insert((handle, guid), rec)
     }
 
-    /// Enters whatever records of an interface, which name no number above a given one.
+    /// Enters any records of an interface, which name no number above a given one.
     fn enter_up_to(&mut self, interface: Interface, largest: u64) -> Result<(), OutOfMemory>
         ensures kept { SaysMore self.old self.new }
         ensures ok { OnOk result ((name : ℕ) → name ≤ largest → covers self.new name interface ≡ true) }
@@ -64,9 +64,9 @@ impl Names {
         Ok(())
     }
 
-    /// Enters the records of an interface that are put in as a whole: one by one if they are few, and else
-    /// whatever they name. So a turn costs no more than the few do, and few interfaces have records whose names
-    /// are not known.
+    /// Enters the records of an interface that are put in as a whole: one by one if they are few, and otherwise
+    /// whatever they name. So a turn costs no more than those few records do, and few interfaces have records
+    /// whose names are not known.
     pub fn enter_whole(
         &mut self,
         handle: Handle,
@@ -97,7 +97,7 @@ impl Names {
         self.named.insert_all(handle, guid, records)
     }
 
-    /// Forgets that an interface may have whatever records, if it has none left. Takes no memory.
+    /// Forgets that an interface may have any records, if it has none left. Takes no memory.
     pub fn leave(&mut self, handle: Handle, guid: Guid, left: usize)
         ensures others { SaysMoreElsewhere (handle, guid) self.old self.new }
         ensures kept { 0 < left → SaysMore self.old self.new }
@@ -128,10 +128,10 @@ impl Names {
         first_from(&self.returned, from)
     }
 
-    /// Forgets a handle at the interfaces that have no record which names it, makes it known what those
-    /// interfaces name that were put back as a whole and have few records by now, and asks the others for the
-    /// handle. `len` is the number of all records. After that no interface is looked at in vain for records
-    /// that name the handle, if there is memory for what is known.
+    /// Forgets a handle at the interfaces that have no record which names it. Enters one by one what is named by
+    /// the interfaces that were put back as a whole and have few records by now, and asks the other such
+    /// interfaces for the handle. `len` is the number of all records. After that no interface is looked at in
+    /// vain for records that name the handle, if there is memory for what is known.
     pub fn forget(&mut self, interfaces: &Interfaces, len: usize, name: u64)
         ensures { StillNamed interfaces.now self.old self.new }
     {
@@ -195,9 +195,10 @@ impl Names {
         Ok(())
     }
 
-    /// Forgets each handle at the interfaces that have no record which names it, if there are more than four
-    /// times as many names as records, and interfaces that were put back as a whole and have no records. `len` is
-    /// the number of all records. A record has two names at most, so half of the names or more go then.
+    /// If there are more than four times as many names as records, forgets each handle at the interfaces that
+    /// have no record which names it. In any case forgets the interfaces that were put back as a whole and have
+    /// no records. `len` is the number of all records. A record has at most two names, so if handles are
+    /// forgotten at all, half of the names or more are.
     pub fn tidy(&mut self, interfaces: &Interfaces, len: usize)
         ensures { StillNamed interfaces.now self.old self.new }
     {

@@ -29,9 +29,9 @@ pub type Naming = (u64, Interface);
 #[derive(Drop)]
 pub struct Namings {
     named: BTreeSet<Naming>,
-    /// Of some interfaces records that they had. What these name is there with the interface.
+    /// For some interfaces, records that they had. What these name is there with the interface.
     known: BTreeMap<Interface, Known>,
-    /// How often such an interface may be passed over, so that it is still known when it comes back.
+    /// How often such an interface may still be passed over, so that it is still known when it comes back.
     spares: usize,
 }
 
@@ -47,7 +47,7 @@ impl Model for Namings {
 }
 
 impl Namings {
-    /// None.
+    /// No numbers.
     pub fn new(alloc: Global) -> Namings
         ensures { (q : NamingValue) → contains naming_cmp result q ≡ false }
     {
@@ -104,7 +104,7 @@ impl Namings {
         Ok(())
     }
 
-    /// Enters what the records of an interface name, as they stand.
+    /// Enters what the records of an interface name, as they are in the map.
     pub fn insert_at(
         &mut self,
         interfaces: &Interfaces,
@@ -201,8 +201,8 @@ impl Namings {
         self.named.remove(&(name, (handle, guid)));
     }
 
-    /// Takes out a number with an interface, if it is not known what this had. It may come back with the same
-    /// records: so it is passed over, but not for ever.
+    /// Takes out a number with an interface, unless it is known what this interface had. Such an interface may
+    /// come back with the same records: so it is passed over, but not for ever.
     fn remove_unknown(&mut self, name: u64, handle: Handle, guid: Guid)
         ensures { OthersStay (name, (handle, guid)) self.old self.new }
     {

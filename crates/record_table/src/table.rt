@@ -1,6 +1,6 @@
 //! The records of all interfaces: for each interface the list of its records, and the interfaces by the handles
 //! that their records name.
-ghost use Rattle.std.specs.Prelude.{◌≡◌, ◌<◌, ◌^◌, [], false, true, ◌&&◌, not, is_some, IfOk, IfSome, MatchOption, OnOk, OnErr, find, map, length, filter, if◌then◌else◌};
+ghost use Rattle.std.specs.Prelude.{◌≡◌, ◌<◌, ◌^◌, [], false, true, ◌&&◌, not, None, is_some, IfOk, IfSome, MatchOption, OnOk, OnErr, find, map, length, filter, if◌then◌else◌};
 ghost use Rattle.std.specs.List.{list_any};
 ghost use Rattle.record_table.specs.Changing.{is_weak_on, with_new, with_raised, count_in, counted, is_open, put_taken, with_interface};
 ghost use Rattle.parted_records.specs.Parting.{IsFit, lasting};
@@ -10,6 +10,7 @@ ghost use Rattle.record_table.specs.Keyed.{is_after, is_of, records_of, rise};
 ghost use Rattle.record_table.specs.Walking.{IsNextOn, passes_from};
 ghost use Rattle.record_table.specs.Table.{IsFirstOf, IsNew, IsNextOf};
 ghost use Rattle.record_table.specs.declared.open_record.KeyedRecord.{KeyedRecord as KeyedValue};
+ghost use Rattle.fw_types.specs.declared.attr.TheConstants.Attr.{WEAK_BITS as weak_bits};
 
 use crate::choosing::{OnInterface, Test};
 use crate::interfaces::{
@@ -190,13 +191,15 @@ impl Table {
     }
 
     /// Whether an interface has a weak record.
-    pub fn has_weak(&self, handle: Handle, guid: Guid) -> bool {
+    pub fn has_weak(&self, handle: Handle, guid: Guid) -> bool
+        ensures { result ≡ list_any (is_meant None None weak_bits) (records_of self.now handle guid) }
+    {
         let weak = Meant {
             agent: None,
             controller: None,
             bits: Attr::WEAK_BITS,
         };
-        has_meant_at(&self.interfaces, (handle, guid), &weak)
+        self.has_meant(handle, guid, &weak)
     }
 
     /// Whether one of the records of an interface is chosen.
@@ -330,7 +333,7 @@ impl Table {
         self.names.leave(handle, guid, left);
     }
 
-    /// Takes out the weak records of an interface as one, if that can be, and answers all that it had.
+    /// Takes out the weak records of an interface as one, if possible, and answers all the records that it had.
     pub fn take_weak(&mut self, handle: Handle, guid: Guid) -> Option<InterfaceRecords>
         ensures left { let stays = λ (one : KeyedValue). not (is_weak_on (handle, guid) one) in
             self.new ≡ (if is_some result then filter stays self.old else self.old) }
@@ -345,14 +348,15 @@ impl Table {
         whole
     }
 
-    /// Makes ready that the weak records of an interface can go as one, if that is worth it: `going` go now.
+    /// Prepares to take out the weak records of an interface as one, if that is worth it. `going` of them are
+    /// taken out now.
     pub fn prepare(&mut self, handle: Handle, guid: Guid, going: usize)
         ensures { self.new ≡ self.old }
     {
         prepare_at(&mut self.interfaces, (handle, guid), going);
     }
 
-    /// Forgets what is said of handles that no record names, if that is much.
+    /// Forgets what is said about handles that no record names, if that is much.
     pub fn tidy(&mut self)
         ensures { self.new ≡ self.old }
     {
@@ -366,8 +370,8 @@ impl Table {
         self.names.forget(&self.interfaces, self.len, name.get());
     }
 
-    /// Puts in the weak records of an interface again, with all that it had. After an error the records are as
-    /// before.
+    /// Puts in the weak records of an interface again, with all the records that it had. After an error the
+    /// records are as before.
     pub fn put_weak(
         &mut self,
         handle: Handle,

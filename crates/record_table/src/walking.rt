@@ -79,7 +79,7 @@ fn start_of(table: &Table, handle: Handle) -> Option<Interface>
     ensures { MatchOption result (list_any (λ (one : KeyedValue). nat_eq one.handle handle) table.now ≡ false)
         (λ interface. IsStartOf handle interface table.now) }
 {
-    // no interface of the handle before can come after this one
+    // no interface of the handle before this one can come after it
     let last = Guid::from_guest(&[0xFF; 16]);
     match Handle::new(handle.get() - 1) {
         None => table.first(),

@@ -36,7 +36,7 @@ pub record MadeHeaders (file : List ℕ) (entry subsystem size relocations secti
   pub code_raw_size : uint32_at 264 file ≡ aligned size
   pub code_offset : uint32_at 268 file ≡ 512
 
--- and what one with relocations says besides
+-- and what one with relocations says in addition
 pub record MadeSection (file : List ℕ) (place relocations : ℕ) : Type 0 where
   pub directory : uint32_at 240 file ≡ place
   pub size : uint32_at 296 file ≡ relocations

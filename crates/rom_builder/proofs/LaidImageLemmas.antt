@@ -102,7 +102,7 @@ get_or-zeros k i =
       | inr past ↦ get_or_past (replicate k 0) i 0 (omega (arith, length-replicate {A = ℕ} k 0))
     ]
 
--- what pads bytes is zeros
+-- the bytes that pad others are zeros
 zero_after : (bytes : List ℕ) (place : ℕ) → length bytes ≤ place → slice_index (padded_bytes bytes) place ≡ 0
 zero_after bytes place past =
     get_or-append_right bytes (replicate (aligned (length bytes) - length bytes) 0) (length bytes) place 0 refl past ∙ get_or-zeros (aligned (length bytes) - length bytes) (place - length bytes)
@@ -128,7 +128,7 @@ made_zeros-end parts place past =
     get_or-append_right (headers ++ padded_bytes parts.code) (padded_bytes blocks) (512 + aligned (length parts.code)) place 0 front (omega arith)
     ∙ zero_after blocks (place - (512 + aligned (length parts.code))) (omega arith)
 
--- a byte of the headers alone, in a file that has zeros there
+-- a byte of the headers followed by zeros, in a file that has zeros there
 header_byte : (file : List ℕ) (size image place : ℕ) → size ≤ length file → (size ≤ place → slice_index file place ≡ 0) → slice_index (take size file ++ replicate (image - size) 0) place ≡ slice_index file place
 header_byte file size image place in_file zeros =
     elim (cases_lt place size) [

@@ -33,7 +33,7 @@ made_image_size parts =
     let front = header_bytes parts.entry parts.subsystem (length parts.code) (length blocks) in
     omega (arith, length-append (front ++ padded_bytes parts.code) (padded_bytes blocks), length-append front (padded_bytes parts.code), length-header_bytes parts.entry parts.subsystem (length parts.code) (length blocks), length-padded_bytes parts.code, length-padded_bytes blocks)
 
--- ---- what is known of parts of which an image is made
+-- ---- what is known of parts from which an image is made
 
 abbrev Rule : Type 0
 Rule = (DriverParts → Bool) × BuildFault

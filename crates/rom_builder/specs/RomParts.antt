@@ -1,4 +1,4 @@
--- The parts of an option ROM of which each has a file as its body.
+-- The parts of an option ROM, each with a file as its body.
 use Rattle.std.specs.Prelude.{ℕ, List, map}
 use Rattle.std.specs.declared.vec.Vec.{Vec}
 use Rattle.std.specs.declared.alloc.Global.{Global}

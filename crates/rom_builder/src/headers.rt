@@ -96,7 +96,7 @@ fn put_code_fields(header: &mut [u8], size: u32)
     put_u32(header, 0x10C, 512);
 }
 
-/// Puts what the headers say of relocations, if there are any.
+/// Puts what the headers say about relocations, if there are any.
 fn put_relocation_fields(header: &mut [u8], place: u32, size: u32)
     requires room { length header.old ≡ 512 }
     requires size { size ≤ 2 ^ 24 }

@@ -29,7 +29,7 @@ pub fn made_images_have_their_code()
 {}
 
 /// An entry past the most bytes of a file is refused, wherever it is: for the length of the file if
-/// that is too long, and else for the entry.
+/// that is too long, and otherwise for the entry.
 pub fn far_entries_are_refused()
     ensures { (parts : Parts) (entry : ℕ) → most_file_bytes ≤ entry →
         fault_of (record parts { entry = entry })

@@ -43,8 +43,8 @@ const SMALLEST: [Change; 31] = [
     (0x204, 0x04),
 ];
 
-/// What the image of 16 bytes of code, with the number 0x210 in the last 8 and a relocation there,
-/// has in other places than the smallest, or otherwise.
+/// The bytes in which the image of 16 bytes of code, with the number 0x210 in the last 8 and a
+/// relocation there, differs from the smallest.
 const WITH_RELOCATION: [Change; 25] = [
     (0x46, 0x02),
     (0x91, 0x06),

@@ -114,7 +114,7 @@ fn entry_bytes(alloc: Global, places: &[usize]) -> Result<Vec<u8>, OutOfMemory>
     Ok(entries)
 }
 
-/// Adds an entry of no meaning to an odd number of entries.
+/// Adds an entry without meaning, if the number of entries is odd.
 fn pad(entries: &mut Vec<u8>) -> Result<(), OutOfMemory>
     ensures bytes { OnOk result (entries.new.items ≡ padded_entries entries.old.items) }
     ensures few { OnOk result (length entries.new.items ≤ length entries.old.items + 2) }

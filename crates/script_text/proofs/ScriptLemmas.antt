@@ -148,7 +148,7 @@ with_item-board more before None ok none = ok
 with_item-board more before (Some (item.Board line)) ok none = more before.board line ok none
 with_item-board more before (Some (item.Command command)) ok none = ok
 
--- ---- one line more
+-- ---- one more line
 
 line_unless-accepted : (kind : Option ScriptKind) (number : ℕ) (here given : Option Item) → line_unless kind number here ≡ accepted given → (kind ≡ None) × (here ≡ given)
 line_unless-accepted None number here given h = (refl, cc)
@@ -191,7 +191,7 @@ pub record ReadSoFar (bytes text : List ℕ) (script : Script) (number : ℕ) : 
   pub small : number ≤ MOST_LINES + 1
   pub board : board_fault script.board ≡ None
 
--- the next line is refused for the same kind after the lines before it as after their script
+-- the next line is refused for the same kind, given the lines before it, as after their script
 kind_of-here : (before : List (List ℕ)) (script : Script) (number : ℕ) (line : List ℕ) → script ≡ script_with (items_of before) → number ≡ length before + 1 → kind_of before line ≡ kind_after number script line
 kind_of-here before script number line given counted =
     ap (λ (n : ℕ). kind_after n (script_with (items_of before)) line) (sym counted) ∙ ap (λ (s : Script). kind_after number s line) (sym given)

@@ -23,7 +23,7 @@ is_hash b = nat_eq b 35
 abbrev pub is_dot : ℕ → Bool
 is_dot b = nat_eq b 46
 
--- words of tabs and printable ASCII characters alone
+-- whether all words have only tabs and printable ASCII characters
 abbrev pub are_text : List (List ℕ) → Bool
 are_text words = list_all (list_all is_text_byte) words
 
@@ -140,7 +140,7 @@ abbrev pub is_refused_at : ScriptKind → Option Argument → List ℕ → Bool
 is_refused_at kind None word = false
 is_refused_at kind (Some argument) word = is_refused kind argument word
 
--- whether one of these words is, the first of which is at a place
+-- whether one of these words is refused for a kind; the first of them is at a place
 abbrev pub some_refused : ScriptKind → Form → ℕ → List (List ℕ) → Bool
 some_refused kind form place [] = false
 some_refused kind form place (word ∷ words) = is_refused_at kind (argument_at form place) word || some_refused kind form (place + 1) words

@@ -122,10 +122,11 @@ has_too_many_words words = on_keyword false (λ keyword. nat_lt (length (form_of
 abbrev pub has_wrong_number : List (List ℕ) → Bool
 has_wrong_number words = refuses_word Number false words
 
--- ---- why it is refused after the lines before it
+-- ---- why it is refused, given the lines before it
 
--- the first rule of boards that a line of the board breaks, after those of the script before it. A
--- number that is malformed counts as 0 there; its line is refused for it before it is for a duplicate
+-- the first rule of boards that a line of the board breaks, given the board lines of the script before it.
+-- A malformed number counts as 0 here; its line is refused for the number before it can be refused as a
+-- duplicate
 abbrev pub fault_after : Script → Option Item → Option LineFault
 fault_after before None = None
 fault_after before (Some (item.Board line)) = line_fault before.board line
@@ -183,11 +184,11 @@ pub data Reading (T : Type 0) : Type 0 where
   accepted : T → Reading T
   refused : ℕ → ScriptKind → Reading T
 
--- the kind for which a line is refused after the lines before it, if it is
+-- the kind for which a line is refused, given the lines before it, if it is
 abbrev pub kind_of : List (List ℕ) → List ℕ → Option ScriptKind
 kind_of before line = kind_after (length before + 1) (script_with (items_of before)) line
 
--- the first of these lines that is refused after those before it, by its number from 1, and its kind
+-- the first of these lines that is refused, given those before it, by its number from 1, and its kind
 abbrev pub first_refusal : List (List ℕ) → List (List ℕ) → Option (ℕ × ScriptKind)
 first_refusal before [] = None
 first_refusal before (line ∷ later) = option_or (option_map (λ kind. (length before + 1, kind)) (kind_of before line)) (first_refusal (before ++ line ∷ []) later)
@@ -196,7 +197,7 @@ abbrev pub script_unless : Option (ℕ × ScriptKind) → Script → Reading Scr
 script_unless None script = accepted script
 script_unless (Some refusal) script = refused refusal.0 refusal.1
 
--- the script that bytes are, or the first line that is refused
+-- bytes as a script, or the first line that is refused
 abbrev pub script_of : List ℕ → Reading Script
 script_of bytes = script_unless (first_refusal [] (lines bytes)) (script_with (items_of (lines bytes)))
 

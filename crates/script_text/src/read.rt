@@ -75,7 +75,7 @@ fn keep(script: &mut Script, item: Option<Item>) -> Result<(), OutOfMemory>
     }
 }
 
-/// The script that bytes are. Its board lines are a board, and the two numbers of each `budget`
+/// Reads bytes as a script. Its board lines are a board, and the two numbers of each `budget`
 /// command are budgets that a machine may be given.
 ///
 /// # Errors

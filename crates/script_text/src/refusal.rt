@@ -72,7 +72,8 @@ fn has_wrong_number(words: &Words<'_>) -> bool
     refuses_word(ScriptKind::Number, keyword_of(words), words, false)
 }
 
-/// The first rule of boards that a line of the board breaks after those of the script before it.
+/// The first rule of boards that a line of the board breaks, given the board lines of the script
+/// before it.
 fn fault_after(before: &Script, item: &Option<Item>) -> Option<LineFault>
     ensures { result ≡ fault_after before.now item.now }
 {

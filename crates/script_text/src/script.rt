@@ -50,7 +50,7 @@ pub enum ScriptKind {
     /// The line has too many words, or a list of over 64 handles, or it is a 17th `root` line or
     /// gives a 257th function.
     Extra,
-    /// A number is malformed, does not fit in 64 bits or is out of its range, or no line before
+    /// A number is malformed, does not fit in 64 bits or is out of its range, or no earlier line
     /// declares the bus or the function.
     Number,
     /// It is a line of the board after a command.

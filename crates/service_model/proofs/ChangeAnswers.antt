@@ -89,7 +89,7 @@ install-answers : (answer : Result ℕ DbRefusal) (handle : Option ℕ) (name : 
 install-answers (Ok new) handle name address owner out w = succeeds w _
 install-answers (Err refusal) handle name address owner out w = as-before OUT_OF_RESOURCES w
 
--- pairs trap for `Memory` alone
+-- pairs trap only for `Memory`
 added-traps : (answer : Result ℕ DbRefusal) (handle : Option ℕ) (pair : List ℕ × ℕ) (owner : ℕ) (w : State) → TrapsByMemory (pair_added answer handle pair owner w)
 added-traps (Ok new) handle pair owner w = traps-end _
 added-traps (Err refusal) handle pair owner w = traps-status OUT_OF_RESOURCES

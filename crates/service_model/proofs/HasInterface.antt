@@ -1,4 +1,4 @@
--- An interface that is found is had.
+-- If a handle's interface of a protocol is found, the handle has the protocol.
 use Rattle.std.proofs.Common.{◌≡◌, ℕ, Bool, true, false, List, [], ◌∷◌, refl, ◌∙◌}
 use Rattle.std.specs.Prelude.{Option, Some, None, is_some, find, option_map}
 use Rattle.std.specs.List.{list_any}

@@ -50,7 +50,7 @@ any-more test from (suc n) =
     ∙ or-assoc (test from) (list_any test (range_with_len (from + 1) n)) (test (from + 1 + n))
     ∙ ap (λ last. (test from || list_any test (range_with_len (from + 1) n)) || test last) next
 
--- ---- one interface more
+-- ---- one more interface
 
 -- the interfaces of a handle, or of one to be made
 abbrev listed : Option ℕ → Database → List Interface
@@ -117,7 +117,8 @@ took (Some handle) new db (live, absent, room) = record {
 
 -- ---- pairs that can be installed
 
--- they are few, their handle is live, they fit one after the other, and their interfaces can be read
+-- there are at most MOST_PAIRS, their handle is live, they fit one after the other, and their
+-- interfaces can be read
 record Fits (handle : Option ℕ) (list count : ℕ) (w : State) : Type 0 where
   few : count ≤ MOST_PAIRS
   live : live_if handle w.soft.database ≡ true

@@ -15,7 +15,7 @@ use Rattle.service_model.specs.declared.plan.Stop.{Stop}
 use Rattle.service_model.specs.declared.plan.Stop.TheVariants.{Status}
 use Rattle.service_model.proofs.RowLines.{Says, each-at, says-end, says-found, says-if, says-stop, says-weaker}
 
--- what is shown of each number is so of all
+-- what is shown of each number holds of all
 pub all-of : (test : ℕ → Bool) (from n : ℕ) → ((i : ℕ) → from ≤ i → i < from + n → test i ≡ true) → list_all test (range_with_len from n) ≡ true
 all-of test from zero holds = refl
 all-of test from (suc n) holds =

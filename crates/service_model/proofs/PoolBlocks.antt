@@ -1,4 +1,4 @@
--- Blocks of the pool that come and go: what they leave.
+-- Blocks of the pool that are freed and made: what this leaves as it was.
 use Rattle.std.proofs.Common.{◌≡◌, ◌≤◌, ◌<◌, inl, inr, ℕ, Bool, true, false, ◌&&◌, ◌||◌, cond, nat_eq, nat_le, nat_lt, List, [], ◌∷◌, refl, sym, ap, ◌∙◌, arith}
 use Rattle.std.specs.List.{list_any}
 use Rattle.std.proofs.lemmas.Bool.{and_parts, eqb-true, or_cases, or_parts}
@@ -14,7 +14,7 @@ fixed-cons : (writable : Bool) (s : Segment) (rest : List Segment) → is_writab
 fixed-cons true s rest is = rw is refl
 fixed-cons false s rest is = rw is refl
 
--- ---- a block of the pool goes
+-- ---- a block of the pool is freed
 
 pool-writable : (kind : SegKind) → nat_eq (kind_number kind) (kind_number Pool) ≡ true → is_writable kind ≡ true
 pool-writable Image is = refl

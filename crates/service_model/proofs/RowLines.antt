@@ -92,7 +92,7 @@ each-at line from (suc n) is i low high = by_line (line from) refl is (λ rest a
 
 -- ---- why lines trap
 
--- a row, or some of its lines, traps for `Memory` alone
+-- a row, or some of its lines, traps only for `Memory`
 abbrev pub TrapsByMemory : {B : Type 0} → Result B Stop → Type 0
 TrapsByMemory {B} result = (cause : Cause) → result ≡ Err (Trap cause) → cause ≡ Memory
 

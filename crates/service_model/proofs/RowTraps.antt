@@ -1,4 +1,4 @@
--- Rows trap for `Memory` alone.
+-- Rows trap only for `Memory`.
 use Rattle.std.proofs.Common.{ℕ, zero, suc, ◌+◌, true, List, rules}
 use Rattle.std.specs.Prelude.{Option, Some, None}
 use Rattle.fw_types.specs.declared.attr.TheConstants.Attr.{BY_HANDLE_PROTOCOL}

@@ -55,7 +55,7 @@ served-cases P s c w short unread refused worked =
     fixed (Some a) enough = worked first a enough
     fixed None enough = refused first enough
 
--- the same for what does not speak of the price
+-- the same for what is not about the price
 pub served-by : (P : Served × State → Type 0) (s : Service) (c : Caller) (w : State)
     → P (Trap Budget, w)
     → P (Trap Memory, w)

@@ -91,7 +91,7 @@ fits-apart segments new fits = by_test (overlaps segments new) refl (is_full seg
     by_test true is full fits = absurd cc
     by_test false is full fits = (or_parts (nat_lt (2 ^ 63) (end_of new)) (list_any (λ (other : Segment). meets new other) segments) is).1
 
--- what could be written can be written beside a new block
+-- what could be written can still be written when there is a new block
 pub block-writable : BlockFits → BlocksLeaveWritable
 block-writable fits soft bytes at n kept room can =
     let new : Segment = block_segment bytes Pool soft in
@@ -108,7 +108,7 @@ pub record CanEnter (handle : ℕ) (name : List ℕ) (agent controller attr : �
   pub verdict : may_enter (judge (records_of soft.records.entries handle name) agent controller attr) ≡ true
   pub room : is_table_full handle name agent controller attr soft.records ≡ false
 
--- a relation between soft parts, from one that is kept, by which each single change goes
+-- a relation between soft parts, from one that is kept, that each single change keeps
 pub record IsKeptBy (R : Soft → Soft → Type 0) : Type 0 where
   pub same : (soft : Soft) → IsKept soft → R soft soft
   pub after : (a b c : Soft) → R a b → R b c → R a c
@@ -278,7 +278,7 @@ block-goes R by keeps fits puts count_first buffer count n bytes w false kept is
 
 -- ---- all changes
 
--- what the changes stand on
+-- what the proofs for the changes need
 pub record Ground : Type 0 where
   pub keeps : IsKeptBy StillKept
   pub fits : BlockFits
@@ -383,7 +383,7 @@ end-goes R by ground (Ok change) w kept can = change-goes R by ground change w k
 end-goes R by ground (Err (stop.Status status)) w kept can = by.same w.soft kept
 end-goes R by ground (Err (stop.Trap cause)) w kept can = by.same w.soft kept
 
--- a service goes by such a relation
+-- a service keeps such a relation
 pub services-go : (R : Soft → Soft → Type 0) → IsKeptBy R → Ground → RowsAreAllowed → (s : Service) (c : Caller) (w : State) → IsKept w.soft → R w.soft (left_by s c w).soft
 services-go R by ground allowed s c w kept =
     served-by (Goes R w) s c w

@@ -54,8 +54,8 @@ abbrev pub live_if : Option ℕ → Database → Bool
 live_if None db = true
 live_if (Some handle) db = is_live handle db
 
--- whether pairs can be installed: they are few, the handle is live, they fit it one after the other, and
--- each interface can be read
+-- whether pairs can be installed: there are at most MOST_PAIRS of them, the handle is live, they fit it one
+-- after the other, and each interface can be read
 abbrev pub can_install : Option ℕ → (list count : ℕ) → State → Bool
 can_install handle list count w =
     nat_le count MOST_PAIRS
@@ -67,7 +67,7 @@ can_install handle list count w =
 abbrev pub can_read_pairs : (list count : ℕ) → State → Bool
 can_read_pairs list count w = nat_le count MOST_PAIRS && list_all (λ i. is_ok (pair_at list i w)) (range_with_len 0 count)
 
--- Whether a change can be applied: the bytes that it reads can be read, and those that it writes be
+-- Whether a change can be applied: the bytes that it reads can be read, and the bytes that it writes can be
 -- written, in memory and in a device; pairs can be installed; an open can be recorded; and each slot of a list
 -- of handles has one.
 abbrev pub is_allowed : Change → State → Bool
@@ -119,7 +119,7 @@ ImagesDoNotLast =
     (soft : Soft) (handle : ℕ) (name : List ℕ) → IsKept soft → is_of_image (interface_of handle name soft.database) ≡ true
     → is_lasting handle name soft ≡ false
 
--- what could be written before other bytes were put can be written after
+-- a range that could be written before bytes were put can be written afterwards
 abbrev pub PuttingLeavesWritable : Type 0
 PuttingLeavesWritable =
     (soft : Soft) (bytes : List ℕ) (to at n : ℕ) → is_writable_range soft.memory at n ≡ true

@@ -1,5 +1,5 @@
 -- The table of services: the boot services (UEFI 2.8, 'EFI Boot Services Table') and the functions of PCI I/O.
--- And how a service goes. Prices are this project's own.
+-- It also says how a service proceeds. Prices are this project's own.
 use Rattle.std.specs.Prelude.{ℕ, ◌+◌, ◌-◌, ◌/◌, ◌%◌, ◌^◌, Bool, true, false, nat_lt, List, replicate, slice_index, Result, Ok, Err, if◌then◌else◌}
 use Rattle.fw_types.specs.declared.limits.TheConstants.{MOST_BYTES}
 use Rattle.fw_types.specs.declared.event.Cause.TheVariants.{Budget}
@@ -24,7 +24,7 @@ use Rattle.service_model.specs.declared.plan.Stop.{Stop}
 
 -- ---- the table
 
--- a row: how many arguments the service has, its price, whether that names an argument, and what the
+-- a row: how many arguments the service has, its price, whether the price depends on an argument, and what the
 -- service does
 pub record Row : Type 0 where
   pub slots : ℕ
@@ -36,7 +36,7 @@ pub record Row : Type 0 where
 abbrev pub fixed : ℕ → ℕ → (Caller → List ℕ → State → Result Change Stop) → Row
 fixed slots price rest = record { slots = slots; price = λ a. price; by_argument = false; rest = rest }
 
--- a row whose price names an argument
+-- a row whose price depends on an argument
 abbrev pub priced : ℕ → (List ℕ → ℕ) → (Caller → List ℕ → State → Result Change Stop) → Row
 priced slots price rest = record { slots = slots; price = price; by_argument = true; rest = rest }
 
@@ -93,9 +93,9 @@ row PciWrite = priced 5 (λ a. transfer_price (arg a 3)) (λ c a. write_device (
 row GetLocation = fixed 5 4 (λ c a. get_location (arg a 0) (arg a 1) (arg a 2) (arg a 3) (arg a 4))
 row Attributes = fixed 4 4 (λ c a. attributes (arg a 0) (arg32 a 1) (arg a 2) (arg a 3))
 
--- ---- how a service goes
+-- ---- how a service proceeds
 
--- a row's change is applied, or all stays as it is
+-- a row's change is applied; if the row stops, the state stays as it is
 abbrev pub end_of_row : State → Result Change Stop → Served × State
 end_of_row w (Ok change) = applied change w
 end_of_row w (Err stop) = stop_answered stop w
@@ -110,14 +110,14 @@ with_price price work w =
 abbrev pub with_arguments : Row → Caller → State → Result Change Stop
 with_arguments row c w = slots row.slots c.sp w >>= λ a. row.rest c a w
 
--- a price that names no argument is spent before the arguments are read
+-- a price that depends on no argument is spent before the arguments are read
 abbrev pub fixed_price : Row → ℕ
 fixed_price row = row.price (replicate most_arguments 0)
 
 abbrev pub priced_first : Row → Caller → State → Served × State
 priced_first row c w = with_price (fixed_price row) (with_arguments row c) w
 
--- a price that names an argument is spent after them
+-- a price that depends on an argument is spent after they are read
 abbrev pub priced_with : Row → Caller → State → Result (List ℕ) Stop → Served × State
 priced_with row c w (Ok a) = with_price (row.price a) (row.rest c a) w
 priced_with row c w (Err stop) = stop_answered stop w

@@ -1,4 +1,4 @@
--- What each change leaves of the state, and what the service answers with it.
+-- What state each change leaves, and what the service answers with it.
 use Rattle.std.specs.Prelude.{ℕ, zero, suc, ◌*◌, Bool, true, false, List, [], length, take, drop, replicate, Option, Some, None, unwrap_or, Result, Ok, Err}
 use Rattle.byteorder.specs.Endian.{little_bytes}
 use Rattle.handle_db.specs.Database.{handles_with}
@@ -45,7 +45,7 @@ stop_answered (Trap cause) w = (served.Trap cause, w)
 abbrev pub bytes_stored : ℕ → List ℕ → State → State
 bytes_stored at bytes w = on_soft (with_memory (put_bytes w.soft.memory at bytes)) w
 
--- a number in the 8 bytes there
+-- a number in the 8 bytes at an address
 abbrev pub number_stored : ℕ → ℕ → State → State
 number_stored at value w = bytes_stored at (little_bytes 8 value) w
 
@@ -115,7 +115,7 @@ abbrev pub first_handle_stored : Option ℕ → (out : ℕ) → Option ℕ × St
 first_handle_stored handle out (None, w) = w
 first_handle_stored handle out (Some new, w) = new_handle_stored handle out new w
 
--- all pairs are installed, or the state is as before
+-- all pairs are installed, or the state is as it was before
 abbrev pub many_served : Option ℕ → (out : ℕ) → (before : State) → Result (Option ℕ × State) Stop → Served × State
 many_served handle out before (Ok end) = status_answered SUCCESS (first_handle_stored handle out end)
 many_served handle out before (Err stop) = stop_answered stop before

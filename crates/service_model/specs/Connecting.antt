@@ -1,4 +1,5 @@
--- ConnectController and DisconnectController (UEFI 2.8, 7.3), up to where they enter the driver model.
+-- ConnectController and DisconnectController (UEFI 2.8, 7.3), up to the point at which they enter the
+-- driver model.
 use Rattle.std.specs.Prelude.{ℕ, Bool, false, ◌&&◌, not, nat_eq, find, map, List, Option, Some, None, ok_or, unwrap_or, Result, Ok, Err, if◌then◌else◌}
 use Rattle.std.specs.List.{range_with_len}
 use Rattle.fw_types.specs.declared.status.TheConstants.Status.{INVALID_PARAMETER}
@@ -26,7 +27,7 @@ has_handle list w i = is_handle (number (slot_at list i) w)
 unfoldable pub first_without : (slots list : ℕ) → State → Option ℕ
 first_without slots list w = find (λ i. not (has_handle list w i)) (range_with_len 0 slots)
 
--- how many handles the list has: there the slot is read, and it is a 0 or traps
+-- how many handles the list has: the slot after them is read, and it is a 0 or the service traps
 abbrev pub length_by : Option ℕ → (list : ℕ) → State → Result (Option ℕ) Stop
 length_by None list w = Ok None
 length_by (Some i) list w = number (slot_at list i) w >>= λ value. Ok (Some i)

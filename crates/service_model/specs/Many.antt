@@ -27,8 +27,8 @@ pair_place list i = (list + 16 * i) % 2 ^ 64
 abbrev pub interface_place : (list i : ℕ) → ℕ
 interface_place list i = (list + 16 * i + 8) % 2 ^ 64
 
--- How many pairs come before a 0, and whether one follows them, if `done` were read before and at most
--- so many more are read. Of one pair more only the pointer is read.
+-- How many pairs there are, and whether a 0 follows them, if `done` of them were read before and at most `most` more
+-- are read. Of the pair after those only the pointer is read.
 unfoldable pub pairs_before : (most done list : ℕ) → State → Result (ℕ × Bool) Stop
 pairs_before zero done list w = number (pair_place list done) w >>= λ pointer. Ok (done, null pointer)
 pairs_before (suc most) done list w =
@@ -61,7 +61,7 @@ is_named name (Err stop) = false
 abbrev pub is_seen : List ℕ → (list seen : ℕ) → State → Bool
 is_seen name list seen w = list_any (λ i. is_named name (pair_name list i w)) (range_with_len 0 seen)
 
--- whether a limit is met if so many are installed before
+-- whether a limit is met if so many pairs are installed before
 abbrev pub no_room : Option ℕ → (seen : ℕ) → State → Bool
 no_room None seen w = is_full w.soft.database
 no_room (Some handle) seen w = nat_le MOST_INTERFACES (length (interfaces_of handle w.soft.database) + seen)
@@ -119,7 +119,8 @@ interface_named handle list w i = named_by handle (pair_at list i w)
 abbrev pub interfaces_named : (handle list count : ℕ) → State → List HandleInterface
 interfaces_named handle list count w = map (interface_named handle list w) (range_with_len 0 count)
 
--- UninstallMultipleProtocolInterfaces, up to where drivers are disconnected. Each pair must be there before the first goes.
+-- UninstallMultipleProtocolInterfaces, up to the point at which drivers are disconnected. Each pair must be there
+-- before the first one is removed.
 abbrev pub uninstall_multiple : (given list : ℕ) → State → Result Change Stop
 uninstall_multiple given list w = do
   pairs ← pairs_before MOST_PAIRS 0 list w

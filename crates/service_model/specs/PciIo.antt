@@ -27,8 +27,8 @@ function_at this w = ok_or (pci_at this w.soft) (Status INVALID_PARAMETER)
 abbrev pub transfer_price : (count : ℕ) → ℕ
 transfer_price count = 4 + min count PRICED_ELEMENTS
 
--- How many bytes an element has, by its width (EFI_PCI_IO_PROTOCOL_WIDTH): 1, 2, 4 or 8. The widths after these,
--- by which one address or one element is used again, are not built.
+-- How many bytes an element has, by its width (EFI_PCI_IO_PROTOCOL_WIDTH): 1, 2, 4 or 8. The widths after these
+-- use one address or one element again and again. They are not built.
 abbrev pub element_size : (width : ℕ) → Result ℕ Stop
 element_size width =
     if nat_lt LAST_WIDTH width then Err (Status INVALID_PARAMETER)

@@ -43,7 +43,7 @@ abbrev pub has_record : ℕ → List ℕ → (agent controller : Option ℕ) (bi
 has_record handle name agent controller bits w =
     list_any (is_meant agent controller bits) (records_of w.soft.records.entries handle name)
 
--- UninstallProtocolInterface, up to where its driver is disconnected
+-- UninstallProtocolInterface, up to the point at which its driver is disconnected
 abbrev pub uninstall : (given guid_at interface : ℕ) → State → Result Change Stop
 uninstall given guid_at interface w = do
   refuse_if (null guid_at) INVALID_PARAMETER
@@ -66,8 +66,8 @@ out_of attr out = if nat_eq attr TEST_PROTOCOL then None else Some out
 abbrev pub out_size : (bits : ℕ) → ℕ
 out_size bits = if nat_eq bits TEST_PROTOCOL then 0 else 8
 
--- What the open records of the interface say decides, for an agent and a controller that are live or 0. A driver
--- that is in the way is disconnected first, and then the open is looked at again as it was asked for.
+-- The open records of the interface decide, for an agent and a controller that are live or 0. A driver that is in the
+-- way is disconnected first, and then the open is looked at again, as it was asked for.
 abbrev pub change_for_verdict : Verdict → Opening → (agent controller interface : ℕ) → Result Change Stop
 change_for_verdict Add o agent controller interface = Ok (Open o.handle o.guid agent controller o.attr (out_of o.attr o.out) interface)
 change_for_verdict Count o agent controller interface = Ok (Open o.handle o.guid agent controller o.attr (out_of o.attr o.out) interface)
@@ -159,7 +159,7 @@ search_protocol search guid_at w = if nat_eq search BY_PROTOCOL then (guid guid_
 abbrev pub how_many : Option (List ℕ) → State → ℕ
 how_many name w = length (handles_with name w.soft.database)
 
--- the handles are stored if the buffer that is given has room; else the size that they need is stored
+-- the handles are stored if the buffer that is given has room; otherwise the size that they need is stored
 abbrev pub handles_in_buffer : (given : ℕ) → Option (List ℕ) → (size buffer needed : ℕ) → State → Result Change Stop
 handles_in_buffer given name size buffer needed w =
     if nat_lt given needed then Ok (Store (Some size) needed BUFFER_TOO_SMALL)

@@ -16,7 +16,7 @@ unbuilt w = Err (Status UNSUPPORTED)
 
 -- ---- 7.1, 'Event, Timer, and Task Priority Services'
 
--- RaiseTPL answers the level of before
+-- RaiseTPL answers the earlier level
 abbrev pub raise_tpl : (new : ℕ) → State → Result Change Stop
 raise_tpl new w =
     if nat_le w.soft.tpl new && nat_le new TPL_HIGH_LEVEL then Ok (SetTpl new w.soft.tpl) else Ok (Value w.soft.tpl)

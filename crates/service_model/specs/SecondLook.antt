@@ -19,7 +19,7 @@ use Rattle.service_model.specs.declared.plan.Change.{Change}
 use Rattle.service_model.specs.declared.plan.Change.TheVariants.{Open, Store}
 use Rattle.service_model.specs.declared.plan.Stop.{Stop}
 
--- 0 is stored if the handle does not have the protocol any more; and no record with BY_DRIVER or EXCLUSIVE may be there
+-- 0 is stored if the handle does not have the protocol any more; no record with BY_DRIVER or EXCLUSIVE may be there
 abbrev pub open_after_removal : Option (ℕ × ℕ) → Opening → State → Result Change Stop
 open_after_removal None o w = Ok (Store (out_of o.attr o.out) 0 UNSUPPORTED)
 open_after_removal (Some found) o w = do

@@ -74,12 +74,12 @@ TrapsChangeNothing =
 
 -- ---- what a service costs, and why it traps
 
--- the price of a call, or why the argument that it names can't be read
+-- the price of a call, or why the argument that it depends on can't be read
 abbrev pub price_of : Service → Caller → State → Result ℕ Stop
 price_of s c w =
     if (row s).by_argument then (slots (row s).slots c.sp w >>= λ a. Ok ((row s).price a)) else Ok (fixed_price (row s))
 
--- `Budget` if the price is more than the units that are left; else `Memory`
+-- `Budget` if the price is more than the units that are left, and otherwise `Memory`
 abbrev pub cause_by : Result ℕ Stop → State → Cause
 cause_by (Ok price) w = if nat_lt w.hard.units price then Budget else Memory
 cause_by (Err stop) w = Memory
@@ -87,7 +87,7 @@ cause_by (Err stop) w = Memory
 abbrev pub TrapsForItsCause : Type 0
 TrapsForItsCause = (s : Service) (c : Caller) (w : State) (cause : Cause) → (served s c w).0 ≡ Trap cause → cause ≡ cause_by (price_of s c w) w
 
--- and always if its price is more than what is left, or can't be read
+-- a service always traps if its price is more than what is left, or can't be read
 abbrev pub ShortOfUnitsTraps : Type 0
 ShortOfUnitsTraps =
     (s : Service) (c : Caller) (w : State) (price : ℕ) → price_of s c w ≡ Ok price → nat_lt w.hard.units price ≡ true → served s c w ≡ (Trap Budget, w)
@@ -105,7 +105,7 @@ pub record StoresAtMostOne (known : Result ℕ Stop) (old new : State) : Type 0 
   pub costs : known ≡ Ok price
   pub leaves : new ≡ stored_if out number (on_hard (units_spent price) old)
 
--- so it is if a service answers an error: bit 63 is set
+-- this holds if a service answers an error, which has bit 63 set
 abbrev pub ErrorsChangeNothing : Type 0
 ErrorsChangeNothing =
     (s : Service) (c : Caller) (w : State) (value : ℕ) → (served s c w).0 ≡ Value value → is_error (record { 0 = value }) ≡ true

@@ -38,7 +38,7 @@ null at = nat_eq at 0
 abbrev pub refuse_if : Bool → StatusValue → Result Unit Stop
 refuse_if test status = if test then Err (Status status) else Ok tt
 
--- n bytes from an address on can be read, or written; else the service traps
+-- n bytes from an address on can be read, or written; otherwise the service traps
 abbrev pub readable : ℕ → ℕ → State → Result Unit Stop
 readable n at w = if is_readable w.soft.memory at n then Ok tt else Err (Trap Memory)
 
@@ -63,7 +63,7 @@ slots n sp w = ok_or (arguments w.soft.memory sp n) (Trap Memory)
 abbrev pub dead : ℕ → State → Bool
 dead handle w = null handle || not (is_live handle w.soft.database)
 
--- a live handle; else the service answers a status
+-- a live handle; otherwise the service answers a status
 abbrev pub alive : ℕ → StatusValue → State → Result ℕ Stop
 alive handle status w = if dead handle w then Err (Status status) else Ok handle
 

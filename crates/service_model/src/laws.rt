@@ -71,7 +71,7 @@ pub fn pairs_are_installed()
 {}
 
 /// The row of ConnectController ends only with a change that can be applied, and its list of handles ends
-/// at a 0. A service that goes on changes nothing before.
+/// at a 0. A service that goes on changes nothing before it does so.
 pub fn reentries_change_nothing()
     ensures allowed { ConnectIsAllowed }
     ensures ends { ContextEndsAtZero }
@@ -107,8 +107,9 @@ pub fn services_leave()
     ensures errors { ErrorsChangeNothing }
 {}
 
-/// Why a service traps. If its price names an argument that can't be read, for `Memory`; else, exactly
-/// if the price is more than the units that are left, for `Budget`; else for `Memory`.
+/// Why a service traps. If its price depends on an argument that can't be read, the cause is `Memory`.
+/// Otherwise, exactly if the price is more than the units that are left, the cause is `Budget`. In all
+/// other cases it is `Memory`.
 pub fn services_trap()
     ensures cause { TrapsForItsCause }
     ensures short { ShortOfUnitsTraps }

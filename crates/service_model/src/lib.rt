@@ -5,9 +5,9 @@
 //! does. `specs/Rows.antt`, `specs/Protocols.antt`, `specs/Many.antt` and `specs/Connecting.antt` say
 //! what each boot service does, and `specs/PciIo.antt` what each function of PCI I/O does, in the small
 //! language of `specs/Words.antt`: a row looks at the arguments and at the state, and then ends with a
-//! change or stops. `specs/Changes.antt` applies the change, and
-//! `specs/Contents.antt` has the bytes that a service returns in a block. `laws` says what services
-//! leave. There is code only where definitions and code share a plain type or number.
+//! change or stops. `specs/Changes.antt` applies the change, and `specs/Contents.antt` has the bytes
+//! that a service returns in a block. `laws` says what services leave. There is code only for the plain
+//! types and numbers that definitions and code share.
 #![tactic(auto)]
 
 mod call;

@@ -25,7 +25,8 @@ pub const CONTEXT_SLOTS: u64 = 64;
 /// The last width of PCI I/O (UEFI 2.8, 14.4: EFI_PCI_IO_PROTOCOL_WIDTH, EfiPciIoWidthFillUint64).
 pub const LAST_WIDTH: u32 = 11;
 
-/// The last width that is built (EfiPciIoWidthUint64). The others use one address or one element again.
+/// The last width that is built (EfiPciIoWidthUint64). The others use one address or one element
+/// again and again.
 pub const LAST_BUILT_WIDTH: u32 = 3;
 
 /// The price of Mem.Read, Mem.Write, Pci.Read and Pci.Write counts no more elements than these.
@@ -37,7 +38,7 @@ pub const COMMAND: u64 = 4;
 /// The attributes that are supported (UEFI 2.8, 14.4: EFI_PCI_IO_ATTRIBUTE_IO, _MEMORY and _BUS_MASTER).
 pub const ALL_ATTRIBUTES: u64 = 0x700;
 
-/// The attributes now are stored (UEFI 2.8, 14.4: EFI_PCI_IO_PROTOCOL_ATTRIBUTE_OPERATION).
+/// The current attributes are stored (UEFI 2.8, 14.4: EFI_PCI_IO_PROTOCOL_ATTRIBUTE_OPERATION).
 pub const ATTRIBUTES_GET: u32 = 0;
 
 /// Attributes are set.

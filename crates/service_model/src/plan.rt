@@ -29,7 +29,7 @@ pub enum Contents {
     Protocols(Handle),
 }
 
-/// Bytes that go between a device and memory.
+/// Bytes that are moved between a device and memory.
 #[derive(Clone, Copy, Debug, PartialEq, Eq)]
 pub struct Transfer {
     /// The number of the device's function.
@@ -68,7 +68,7 @@ pub enum Change {
         /// Its address.
         at: u64,
     },
-    /// Bytes are copied, as if through a buffer apart from both.
+    /// Bytes are copied, as if through a buffer that is separate from both ranges.
     Copy {
         /// The address of the first byte that is written.
         to: u64,

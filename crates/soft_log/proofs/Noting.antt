@@ -64,7 +64,7 @@ unfolding AreKept
 are_noted [] change before after kept still is are = tt
 are_noted (mark ∷ marks) change before after kept still is are = are_noted_from [] (mark ∷ marks) change before after kept still is are
 
--- open records that went, and were noted with what puts them back
+-- open records that were removed, and were noted with what puts them back
 pub noted_leave : (before after : Soft) (choice : Choice) (gone : List Gone) → IsKept before → after ≡ with_records (without_passing (picks choice) before.records) before → PutsBack gone before after
     → IsNoted (Leave gone) before after
 noted_leave before after choice gone kept is back = rw is (leave_is_noted before choice gone kept (rw is at back))

@@ -83,7 +83,7 @@ are_left_out later (mark ∷ marks) level before after same all are =
       are_left_out changes marks level before after same parts.1 are.2,
     )
 
--- ---- a stack comes and goes
+-- ---- a stack is pushed and popped
 
 pub pushed : {T E : Type 0} (result : Result T E) (marks : List (Section Change Moment)) (before after : Soft) (level : ℕ) (slots handles : List ℕ) → 0 < level → level ≤ MOST_LEVELS
     → has_stack level before.memory ≡ false → AreKept [] marks before → OnOk result (after ≡ stack_pushed level slots handles before) → OnErr result (after ≡ before)

@@ -150,14 +150,14 @@ pub newest_same : (marks : List Soft) (a b : Soft) → stacks a ≡ stacks b →
 newest_same [] a b same newest = refl
 newest_same (kept ∷ older) a b same newest = same ∙ newest
 
--- where nothing was noted since the newest mark, nothing is taken out
+-- if nothing was noted since the newest mark, nothing is taken out
 pub without_none : (marks : List (Section Change Moment)) → last_change marks ≡ None → without_last marks ≡ marks
 without_none [] is = refl
 without_none (newest ∷ older) is =
     let empty : newest.changes ≡ [] = none newest.changes is in
     ap (λ (changes : List Change). record newest { changes = changes } ∷ older) (ap (drop 1) empty ∙ sym empty)
 
--- where something was noted, a mark is open, and what it keeps is asked for, not the soft part now
+-- if something was noted, a mark is open, and what it keeps is asked for, not the soft part now
 pub newest_stays : (marks : List (Section Change Moment)) (kept : List Soft) (change : Change) (soft a b : Soft) → kept_from [] marks soft ≡ kept → last_change marks ≡ Some change → newest_of kept a ≡ newest_of kept b
 unfolding kept_from
 newest_stays [] kept change soft a b are is = absurd cc

@@ -1,4 +1,4 @@
--- The soft part beside its log: the soft part now, and what its open marks keep.
+-- The soft part with its log: the soft part now, and what its open marks keep.
 use Rattle.std.specs.Prelude.{◌≡◌, ℕ, Bool, ◌&&◌, nat_le, List, [], ◌∷◌, ◌++◌, if◌then◌else◌}
 use Rattle.guest_memory.specs.declared.segment.Segment.{Segment}
 use Rattle.undo_log.specs.Log.{Section}
@@ -19,7 +19,7 @@ abbrev pub newest_of : (marks : List Soft) → (now : Soft) → Soft
 newest_of [] now = now
 newest_of (kept ∷ older) now = kept
 
--- a moment is that of a soft part: the levels are those with a stack, and the address is that of the next block
+-- what a mark carries fits a soft part: the levels are those with a stack, and the address is that of the next block
 pub record IsMomentOf (moment : Moment) (soft : Soft) : Type 0 where
   pub levels : AreLevelsOf moment.levels soft
   pub next_block : moment.next_block ≡ soft.next_block
@@ -30,7 +30,7 @@ unfoldable pub kept_from : (later : List Change) → List (Section Change Moment
 kept_from later [] soft = []
 kept_from later (mark ∷ marks) soft = kept_by mark.carried.levels (later ++ mark.changes) soft ∷ kept_from (later ++ mark.changes) marks soft
 
--- the changes since each mark can be taken back, and what it carries is of what it keeps
+-- the changes since each mark can be taken back, and what the mark carries fits what it keeps
 unfoldable pub AreKept : (later : List Change) → List (Section Change Moment) → Soft → Type 0
 AreKept later [] soft = Unit {0}
 AreKept later (mark ∷ marks) soft =

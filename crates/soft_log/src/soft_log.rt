@@ -67,9 +67,8 @@ impl Model for SoftLog {
 }
 
 impl SoftLog {
-    /// The soft part of the opening state, for a board with so many functions, and with at most 16
-    /// root bridges with their _UID and bus. No mark is open, and there is room for as many as may
-    /// be.
+    /// The soft part of the opening state, for a board with so many functions, and with at most 16 root
+    /// bridges with their _UID and bus. No mark is open, and there is room for as many as there may be.
     ///
     /// # Errors
     ///
@@ -292,8 +291,7 @@ impl SoftLog {
 
     // ---- open records
 
-    /// Enters an open of an interface that is there, by a live agent, for none or for a live
-    /// controller.
+    /// Enters an open of an interface that is there, by a live agent, for no controller or for a live one.
     ///
     /// # Errors
     ///
@@ -559,8 +557,8 @@ impl SoftLog {
         Ok(at)
     }
 
-    /// Makes a function that of a handle with PCI I/O of the firmware, which is no child yet. A
-    /// number that is no function's of the board changes nothing.
+    /// Makes a function that of a handle with PCI I/O of the firmware, which is no child yet. A number that
+    /// is not that of a function of the board changes nothing.
     ///
     /// # Errors
     ///
@@ -701,7 +699,7 @@ impl SoftLog {
         Ok(())
     }
 
-    /// Spends a mark, and leaves the soft part as it is. It is the newest that is open. Takes no
+    /// Spends a mark, and leaves the soft part as it is. The mark is the newest that is open. Takes no
     /// memory.
     pub fn commit(&mut self, mark: Mark)
         requires newest { mark ≡ length self.old.marks }
@@ -725,8 +723,8 @@ fn bytes_before(alloc: Global, soft: &SoftPart, at: u64, n: u64) -> Result<Rows<
 }
 
 /// What is noted of a block that was freed: what was mapped there, without its bytes if it is a large block
-/// of the pool that was made since the newest mark. An undo takes its making back too, so nothing reads the
-/// bytes, and a driver that makes and frees blocks in one call does not fill the log.
+/// of the pool that was made since the newest mark. An undo also takes back that the block was made, so
+/// nothing reads the bytes, and a driver that makes and frees blocks in one call does not fill the log.
 fn noted_segment(alloc: Global, log: &Log<Change, Moment>, freed: Segment) -> Segment
     ensures { result ≡ segment_noted log.now.marks freed }
 {
@@ -754,7 +752,7 @@ fn is_new_block(segment: &Segment, next_block: u64) -> bool
         && segment.bytes.as_slice().len() > IMAGE_BLOCK_SIZE
 }
 
-/// Takes a change back. If memory is out there is no way back to any mark, so all are given up.
+/// Takes a change back. If it runs out of memory there is no way back to any mark, so all are given up.
 ///
 /// # Errors
 ///

@@ -105,7 +105,7 @@ remove_done db handle guid address owner has = by_entry (find (is_handle handle)
 
 -- ---- images
 
--- with a handle alone
+-- with only a handle
 pub kept_handle : (soft : Soft) (new : Interface) (memory : List Segment) (db : Database) (images : List LoadedImage) → IsKept soft → is_database_full soft.database ≡ false
     → memory ≡ soft.memory → db ≡ installed None new soft.database → images ≡ soft.images → IsKept (record soft { memory = memory; database = db; images = images })
 kept_handle soft new memory db images kept room memory_is db_is images_is =
@@ -124,7 +124,7 @@ kept_added soft bytes entry subsystem device memory db images next block kept in
 pub image_found : (handle number : ℕ) (images slice : List LoadedImage) (found : Option LoadedImage) → number ≡ handle → slice ≡ images → found ≡ image_of number slice → image_of handle images ≡ found
 image_found handle number images slice found same whole is = ap (λ (n : ℕ). image_of n images) (sym same) ∙ ap (λ (xs : List LoadedImage). image_of number xs) (sym whole) ∙ sym is
 
--- the interface of an image that is found goes
+-- the interface of an image that is found is removed
 pub db_dropped : (soft : Soft) (number : ℕ) (one : LoadedImage) (result : Result Removed DbRefusal) (after : Database) → IsKept soft → image_of number soft.images ≡ Some one
     → result ≡ remove_answer one.handle (known_guid LoadedImageProtocol) soft.database → OnOk result (after ≡ removed one.handle (known_guid LoadedImageProtocol) soft.database)
     → after ≡ removed one.handle (known_guid LoadedImageProtocol) soft.database
@@ -173,7 +173,7 @@ begins_found kind base (s ∷ rest) there = by_head (nat_eq s.base base) (is_of 
     by_head true own there later = refl
     by_head false own there later = later there
 
--- ---- records that go
+-- ---- records that are removed
 
 -- records without those of a choice, or not
 pub kept_taken : {T : Type 0} (soft : Soft) (choice : Choice) (result : Result T OutOfMemory) (after : RecordTable) → IsKept soft

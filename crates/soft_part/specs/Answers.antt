@@ -12,7 +12,7 @@ abbrev pub done : {T : Type 0} → Result T WorldFault → Result Unit WorldFaul
 done (Ok value) = Ok tt
 done (Err fault) = Err fault
 
--- After a refusal other than OutOfMemory all is as before.
+-- After a refusal other than OutOfMemory everything is as before.
 abbrev pub AsBefore : {T W : Type 0} → Result T WorldFault → W → W → Type 0
 AsBefore (Ok value) old new = Unit {0}
 AsBefore (Err Full) old new = new ≡ old

@@ -1,5 +1,5 @@
-//! The plain fields of the soft part: those beside the memory of drivers, the handle database and
-//! the open records.
+//! The plain fields of the soft part: all except the memory of drivers, the handle database and the
+//! open records.
 ghost use Rattle.std.specs.Prelude.{IfOk};
 ghost use Rattle.soft_part.specs.Soft.{IsOpening};
 

@@ -1,5 +1,5 @@
-//! The soft part: the type, its blocks and its ranges of bytes. Its other calls stand in the files of this
-//! module, by subject.
+//! The soft part: the type, its blocks and its ranges of bytes. Its other calls are in the files of
+//! this module, by subject.
 ghost use Rattle.std.specs.Prelude.{◌≡◌, ◌≤◌, true, IfOk, OnErr, OnOk, length, replicate, take, Ok};
 ghost use Rattle.guest_memory.specs.Segment.{is_access, is_block};
 ghost use Rattle.guest_memory.specs.GuestMemory.{beginning_at, bytes_of, is_readable, is_writable_range, put_bytes};
@@ -33,7 +33,7 @@ use std::marker::Model;
 use world_model::WorldFault;
 
 /// What an undo puts back: the memory of drivers, the handle database, the open records and the
-/// plain fields beside them.
+/// plain fields.
 #[derive(Drop)]
 pub struct SoftPart {
     alloc: Global,
@@ -214,7 +214,7 @@ impl SoftPart {
         self.memory.bytes(at, n)
     }
 
-    /// The `n` bytes from an address on, and zeros after them; zeros alone if they can't be read.
+    /// The `n` bytes from an address on, and zeros after them; only zeros if they can't be read.
     #[inline]
     pub fn word(&self, at: u64, n: u8) -> [u8; 8]
         requires { is_access n ≡ true }

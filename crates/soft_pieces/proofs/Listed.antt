@@ -1,4 +1,4 @@
--- The records that go with an interface, one kind after the other or at once.
+-- The records that are removed with an interface, one kind after the other or all at once.
 use Rattle.std.proofs.Common.{◌≡◌, ℕ, Bool, true, false, not, ◌&&◌, ◌||◌, cond, List, [], ◌∷◌, filter, None, refl, sym, ap, ◌∙◌}
 use Rattle.std.specs.Prelude.{Result, Ok, Err, IfOk, OnOk}
 use Rattle.std.specs.Result.{is_err}
@@ -20,7 +20,7 @@ twice-more a b one rest true second is next later = rw is later
 twice-more a b one rest false true is next later = rw (is, next) later
 twice-more a b one rest false false is next later = rw (is, next) (ap (λ others. one ∷ others) later)
 
--- records that go at once, instead of one kind after the other
+-- records that are removed all at once, instead of one kind after the other
 twice : (a b : KeyedRecord → Bool) (entries : List KeyedRecord)
     → filter (λ (k : KeyedRecord). not (b k)) (filter (λ (k : KeyedRecord). not (a k)) entries) ≡ filter (λ (k : KeyedRecord). not (a k || b k)) entries
 twice a b [] = refl
@@ -40,17 +40,17 @@ went_with-more handle guid false table =
     ap (λ (entries : List KeyedRecord). record table { entries = entries })
     (sym (all_stay (filter (λ (k : KeyedRecord). not (own k)) table.entries)) ∙ twice own (λ (k : KeyedRecord). false) table.entries)
 
--- the records that go with an interface are those that the choice picks
+-- the records that are removed with an interface are those that the choice picks
 went_with : (handle : ℕ) (guid : List ℕ) (gone : Bool) (after : Database) (table : RecordTable) → is_live handle after ≡ not gone
     → records_removed handle guid after table ≡ without_passing (picks (WithInterface handle guid gone)) table
 went_with handle guid gone after table live = rw live (went_with-more handle guid gone table)
 
--- where they could not be listed, there is nothing to put back
+-- if they could not be listed, there is nothing to put back
 pub nothing_back : {T : Type 0} (result : Result T OutOfMemory) (P : T → Type 0) → is_err result ≡ true → IfOk result P
 nothing_back (Ok done) P err = absurd cc
 nothing_back (Err error) P err = tt
 
--- so it is where they are taken out at once and listed
+-- so it is if they are taken out all at once and listed
 pub went : {T : Type 0} (result : Result T OutOfMemory) (new table : RecordTable) (handle : ℕ) (guid : List ℕ) (db : Database) (live : Bool) → is_err result ≡ false → is_live handle db ≡ live
     → OnOk result (new ≡ without_passing (picks (WithInterface handle guid (not live))) table) → new ≡ records_removed handle guid db table
 went (Ok done) new table handle guid db live not_err is ok = ok ∙ sym (went_with handle guid (not live) db table (is ∙ sym (not-not live)))

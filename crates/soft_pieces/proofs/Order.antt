@@ -57,7 +57,7 @@ module _ (thunks : List Thunk) (next : ℕ) (rise : numbers_rise 0 thunks next �
       let up : address_at thunks i ≤ address_at thunks j = grind (arith, rises_at 0 thunks next i j rise, λ (same : i ≡ j). ap (address_at thunks) same) in
       grind (arith, nat_tests))
 
-  -- a binary search by address ends at the thunk, or where no thunk has the address
+  -- a binary search by address ends at the thunk, or finds nothing if no thunk has the address
   pub searched : (r : Result ℕ ℕ) → IsSearchInRange r (length thunks) → IsBinarySearchResult (λ (thunk : Thunk). nat_cmp (thunk_address thunk.number) at) thunks r
       → record { found : IfSome (result_ok r) (IsPlaceOf at thunks); none : IfNone (result_ok r) (list_any (is_thunk_at at) thunks ≡ false) }
   searched (Ok place) within equal = record { found = record { within = within; here = λ d. ranked _ at _ (sym (equal d)) }; none = tt }

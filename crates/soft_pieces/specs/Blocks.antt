@@ -1,4 +1,4 @@
--- What a loaded image block says of an image, from what the code knows of it.
+-- What a loaded image block says about an image, from what the code knows of it.
 use Rattle.world_model.specs.Images.{BlockContents}
 use Rattle.soft_pieces.specs.declared.image_block.ImageInfo.{ImageInfo}
 

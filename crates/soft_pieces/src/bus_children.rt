@@ -101,7 +101,7 @@ fn position_of(children: &[BusChild], handle: u64) -> Option<usize>
         .position(|child| child.handle.get() == handle)
 }
 
-/// Puts a child that went in its place again. There is room for it.
+/// Puts a child that was removed in its place again. There is room for it.
 pub fn put_child(
     children: &mut Vec<BusChild>,
     gone: Option<(usize, BusChild)>,
@@ -124,7 +124,7 @@ fn drop_handle(children: &mut Vec<BusChild>, handle: Handle)
     children.retain(|child| child.handle.get() != number);
 }
 
-/// Puts a bus list in place of that of a function, and answers the one of before. If there is no such
+/// Puts a bus list in place of that of a function, and answers the earlier one. If there is no such
 /// function, nothing changes.
 pub fn replace_list(lists: &mut Vec<BusList>, function: u32, list: BusList) -> BusList
     ensures before { result ≡ unwrap_or (slice_get lists.old.items function) None }

@@ -10,7 +10,7 @@ use guest_memory::address_map::{BUS_START, BUS_STOP, BUS_SUPPORTED, SYSTEM_TABLE
 /// The revision of the loaded image protocol (UEFI 2.8, 9.1: EFI Loaded Image Protocol).
 const REVISION: u32 = 0x1000;
 
-/// What a loaded image block says of an image.
+/// What a loaded image block says about an image.
 #[derive(Clone, Copy, Debug)]
 pub struct ImageInfo {
     /// The handle of the image that loaded it, or 0.

@@ -1,5 +1,5 @@
-//! The images that are loaded, and what goes with one: its bytes, its loaded image block, its interface, its
-//! thunks and its records.
+//! The images that are loaded, and what is removed with one: its bytes, its loaded image block, its
+//! interface, its thunks and its records.
 ghost use Rattle.std.specs.List.{position, position_or_len};
 ghost use Rattle.std.specs.Prelude.{◌≡◌, true, IfOk, OnErr, OnOk, Some, filter, insert, option_copied, Ok};
 ghost use Rattle.guest_memory.specs.GuestMemory.{beginning_at, lie_from, mapped, unmapped};
@@ -36,7 +36,7 @@ pub fn unmap_image(memory: &mut Memory, thunks: &mut Vec<Thunk>, image: &LoadedI
 ///
 /// # Errors
 ///
-/// `OutOfMemory` if there is no memory for the thunks; all went all the same.
+/// `OutOfMemory` if there is no memory for the thunks; all of it is removed even then.
 pub fn take_image(
     alloc: Global,
     memory: &mut Memory,

@@ -1,13 +1,14 @@
 //! The pieces that the soft part of the world is made of: functions over the memory of drivers, the handle
-//! database, the open records and the plain lists, each of which needs its own pieces alone. `soft_part`
+//! database, the open records and the plain lists. Each function needs only its own pieces. `soft_part`
 //! makes its calls out of them.
 //!
 //! - `mapping`: mapping that nothing refuses, of an image too, with its handle; `addresses`: how far the
 //!   addresses of blocks and images rise.
-//! - `images`: the images that are loaded, and what goes with one and comes back; `image_block`: what a
-//!   loaded image block says of an image; `thunks`: the live thunks, by number and by address.
+//! - `images`: the images that are loaded, and what is removed with one and comes back; `image_block`:
+//!   what a loaded image block says about an image; `thunks`: the live thunks, by number and by
+//!   address.
 //! - `stack`: what a driver call finds on its stack, and the list of children that a Stop is given.
-//! - `opens`: the open records that go with an interface, a handle or an image, and come back.
+//! - `opens`: the open records that are removed with an interface, a handle or an image, and come back.
 //! - `bus_children`: the children of the bus, and the bus lists of the board's functions.
 //! - `tables`, `database`: the memory and the handle database of the opening state.
 //!

@@ -1,4 +1,4 @@
-//! The open records of interfaces, handles and images that go and come back.
+//! The open records of interfaces, handles and images that are removed and come back.
 ghost use Rattle.std.specs.Prelude.{◌≡◌, IfOk, OnOk};
 ghost use Rattle.open_records.specs.OpenRecords.{IsSound as RecordsAreSound};
 ghost use Rattle.open_records.specs.PuttingBack.{AreFitting, put_back};
@@ -21,11 +21,11 @@ fn drop_records(records: &mut Records, db: &Db, handle: Handle, guid: Guid)
     records.drop_naming(handle);
 }
 
-/// The same, and answers what went, which `put_records` puts back.
+/// The same, and answers what was removed, which `put_records` puts back.
 ///
 /// # Errors
 ///
-/// `OutOfMemory` if there is no memory for the list; the records went all the same.
+/// `OutOfMemory` if there is no memory for the list; the records are removed even then.
 pub fn take_records(
     records: &mut Records,
     db: &Db,
@@ -44,7 +44,7 @@ pub fn take_records(
     listed
 }
 
-/// Puts back what went of the records into those that it left. They are then sound.
+/// Puts back what was removed from the records into those that are left. They are then sound.
 ///
 /// # Errors
 ///

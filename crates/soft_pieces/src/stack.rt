@@ -29,7 +29,7 @@ fn list_base(level: u8) -> u64
     CHILD_LISTS + LIST_ROOM * u64::from(level)
 }
 
-/// The registers as a call of a level begins: R0 is at the frame, and all else is 0.
+/// The registers as a call of a level begins: R0 is at the frame, and everything else is 0.
 pub fn frame(level: u8) -> Cpu
     ensures { result ≡ frame_value level }
 {

@@ -20,7 +20,7 @@ lines_of_parts-front x (y ∷ ys) =
       | false ↦ onto (slice_split is_feed ys)
     ]
 
--- a text with a line feed, the first of which stands at n
+-- a text with a line feed, the first of which is at n
 pub lines-feed : (xs : List ℕ) (n : ℕ) → n ≡ position_or_len is_feed xs → n < length xs → lines xs ≡ strip_carriage_return (take n xs) ∷ lines (drop (n + 1) xs)
 lines-feed xs n e lt =
     let there : position_or_len is_feed xs < length xs = omega (arith, e) in

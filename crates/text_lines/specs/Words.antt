@@ -7,7 +7,7 @@ use Rattle.std.specs.List.{after_first, before_first, list_all, prefix_len, slic
 abbrev pub is_text_byte : ℕ → Bool
 is_text_byte b = nat_eq b 9 || (nat_le 32 b && nat_le b 126)
 
--- spaces and tabs part words
+-- spaces and tabs separate words
 abbrev pub is_blank : ℕ → Bool
 is_blank b = nat_eq b 32 || nat_eq b 9
 

@@ -57,7 +57,7 @@ fn between_blanks<'a>(alloc: Global, text: &'a [u8]) -> Result<Vec<&'a [u8]>, Al
         .collect(alloc)
 }
 
-/// The words of a text, which spaces and tabs part.
+/// The words of a text, which are separated by spaces and tabs.
 ///
 /// # Errors
 ///

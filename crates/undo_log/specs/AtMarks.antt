@@ -8,7 +8,7 @@ undone back [] now = now
 undone back (change ∷ changes) now = undone back changes (back change now)
 
 -- The states at the open marks, the newest first. `back` takes a change back. `kept` is what a mark keeps of the
--- state at it, by what it carries.
+-- state at that mark, given what the mark carries.
 abbrev pub at_marks : {C P S : Type 0} (back : C → S → S) (kept : P → S → S) → List (Section C P) → S → List S
 at_marks back kept [] now = []
 at_marks back kept (newest ∷ older) now =

@@ -20,11 +20,12 @@ abbrev pub is_unmarked : {C P : Type 0} → List (Section C P) → Bool
 is_unmarked [] = true
 is_unmarked (newest ∷ older) = false
 
--- whether the next change can be noted without memory: no mark is open, so that it is dropped, or there is room
+-- whether the next change can be noted without taking memory: no mark is open, so that it is dropped, or there
+-- is room
 abbrev pub has_room : {C P : Type 0} → LogView C P → Bool
 has_room log = is_unmarked log.marks || log.room
 
--- one more mark, since which nothing was changed
+-- one more mark, with no changes since
 abbrev pub marked : {C P : Type 0} → P → List (Section C P) → List (Section C P)
 marked carried marks = record { carried = carried; changes = [] } ∷ marks
 

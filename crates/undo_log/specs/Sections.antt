@@ -1,4 +1,5 @@
--- How the log keeps its marks: in one list of changes, each by how many there were when it was made.
+-- How the log keeps its marks: in one list of changes, each mark by how many changes there were when it was
+-- made.
 use Rattle.std.specs.Prelude.{◌≡◌, ◌≤◌, ℕ, List, [], ◌∷◌, take, drop, reverse}
 use Rattle.fw_types.specs.declared.limits.TheConstants.{MOST_MARKS}
 use Rattle.undo_log.specs.Log.{Section}

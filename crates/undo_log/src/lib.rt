@@ -3,7 +3,7 @@
 //!
 //! Marks are nested. A contract sees a `Log` as the record `LogView`: its open marks from the newest to
 //! the outermost, each with what it carries and with the changes from it to the next newer mark, the last
-//! one first. The log knows nothing of what a change is: who notes one knows how to take it back.
+//! one first. The log does not know what a change is: whoever notes one knows how to take it back.
 #![tactic(auto)]
 
 mod laws;

@@ -10,8 +10,8 @@ use std::marker::Model;
 /// The changes since the open marks. `C` is a change with what its inverse needs; `P` is what a mark
 /// carries.
 ///
-/// A change takes its own size and no more, so the size of `C` decides how large a log grows. While the
-/// log grows it may hold twice its changes.
+/// A change takes up its own size and no more, so the size of `C` decides how large a log grows. While the
+/// log grows it may take up twice the size of its changes.
 #[derive(Drop)]
 pub struct Log<C, P> {
     changes: Vec<C>,
@@ -94,8 +94,8 @@ impl<C, P> Log<C, P> {
         }
     }
 
-    /// Takes the last change out that was noted since a mark, the newest that is open. It is `None` exactly
-    /// if nothing was noted since the mark or all of it was taken. Takes no memory.
+    /// Takes out the last change that was noted since a mark, the newest that is open. It is `None` exactly
+    /// if nothing was noted since the mark or all of it was taken out. Takes no memory.
     pub fn take_last(&mut self, mark: &Mark) -> Option<C>
         requires newest { mark.now ≡ depth self.old }
         ensures change { result ≡ last_change self.old.marks }
@@ -123,7 +123,8 @@ impl<C, P> Log<C, P> {
         }
     }
 
-    /// Closes all marks and drops all changes, if there is no way back since memory is out. Takes no memory.
+    /// Closes all marks and drops all changes, if there is no way back because memory ran out. Takes no
+    /// memory.
     pub fn clear(&mut self)
     where
         C: Drop,

@@ -67,7 +67,7 @@ pub bases-unmapped_other : (of : SegKind) (base : ℕ) (segments : List Segment)
 bases-unmapped_other of base [] none = refl
 bases-unmapped_other of base (s ∷ rest) none = unmapped-more of base s rest (nat_eq s.base base) refl none (bases-unmapped_other of base rest)
 
--- no segment of those that lie after an address begins before it
+-- no segment that lies after an address begins before it
 other_behind : (of : SegKind) (base from : ℕ) (segments : List Segment) → lie_from from segments ≡ true → base < from → filter (λ (b : ℕ). not (nat_eq b base)) (bases of segments) ≡ bases of segments
 other_behind of base from [] lies behind = refl
 other_behind of base from (s ∷ rest) lies behind =
@@ -109,7 +109,7 @@ bases-unmapped of base from (s ∷ rest) lies =
 
 -- ---- images
 
--- an image that lies right and begins at or after the next image's address is none
+-- a segment that lies in its region and begins at or after the next image's address is no image
 none_behind-more : (next block : ℕ) (s : Segment) → is_placed next block s ≡ true → next ≤ s.base → is_of kind.Image s ≡ false
 none_behind-more next block s right behind = none next block s.kind s.base (length s.bytes) right behind
   where
@@ -156,7 +156,7 @@ bases-mapped_image next block from new (s ∷ rest) placed lies is at =
         bases-cons kind.Image false s rest (none_behind-more next block s right behind) ∙ none_behind next block (end_of s) rest (and_parts (is_placed next block s) (list_all (is_placed next block) rest) placed).1 lie (omega arith) in
         bases-cons kind.Image true new (s ∷ rest) is ∙ ap (λ others. new.base ∷ others) none ∙ sym (ap (λ others. others ++ new.base ∷ []) none)
 
--- no image begins where none may lie
+-- no image begins outside the range of images
 pub no_image : (next block base : ℕ) (segments : List Segment) → list_all (is_placed next block) segments ≡ true → (base < FIRST_IMAGE) ⊎ (next ≤ base) → begins kind.Image base segments ≡ false
 no_image next block base [] placed away = refl
 no_image next block base (s ∷ rest) placed away =

@@ -107,7 +107,7 @@ emptied_beside_stacks soft at levels = ap (λ (memory : List Segment). with_memo
 
 -- ---- freeing
 
--- a block is freed where it begins, and no matter what bytes it has
+-- a block is freed at the address at which it begins, whatever bytes it has
 same_answer : (there also other : Bool) → also ≡ there → ◌≡◌ {A = Result Unit WorldFault} (if there && not other then Ok tt else Err NotThere) (Ok tt)
     → ◌≡◌ {A = Result Unit WorldFault} (if also && not other then Ok tt else Err NotThere) (Ok tt)
 same_answer there also other same done = rw same done
@@ -123,7 +123,7 @@ empty_free_is_noted soft at of segment kept is done found large =
 
 -- ---- taking back
 
--- what is mapped where the block is there is not the block
+-- while the block is there, what a change maps again is not the block
 pub taken_emptied : (change : Change) (soft : Soft) (at : ℕ) → lie_from 0 soft.memory ≡ true → lie_from 0 (taken_back change soft).memory ≡ true → list_any (is_large_block at) soft.memory ≡ true
     → taken_back change (block_emptied at soft) ≡ block_emptied at (taken_back change soft)
 unfolding taken_back

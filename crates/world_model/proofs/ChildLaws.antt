@@ -19,7 +19,7 @@ use Rattle.world_model.specs.Kept.{IsKept, are_apart, is_address, is_child_there
 use Rattle.world_model.specs.Opening.{firmware_soft}
 use Rattle.world_model.proofs.RootBridges.{step}
 
--- a child that is found passes the test, and what all pass
+-- a child that is found passes the test, and also a test that all pass
 found_child : (P Q : BusChild → Bool) (children : List BusChild) (child : BusChild) → find P children ≡ Some child → list_all Q children ≡ true → (P child ≡ true) × (Q child ≡ true)
 found_child P Q [] child found all = absurd cc
 found_child P Q (first ∷ children) child found all =
@@ -31,7 +31,7 @@ found_child P Q (first ∷ children) child found all =
     by_head true is passes later same = let one : first ≡ child = cc in (subst (λ c. P c ≡ true) one is, subst (λ c. Q c ≡ true) one passes)
     by_head false is passes later same = later same
 
--- a child that is found is none that all others differ from
+-- a child that is found is not the one that all others differ from
 apart_from : (P : BusChild → Bool) (first : BusChild) (children : List BusChild) (child : BusChild) → list_any (is_child first.handle) children ≡ false → find P children ≡ Some child → is_child child.handle first ≡ false
 apart_from P first [] child alone found = absurd cc
 apart_from P first (second ∷ children) child alone found =

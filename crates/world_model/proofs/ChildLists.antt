@@ -39,7 +39,7 @@ children-other handle guid soft other kept = record {
   apart = kept.apart;
 }
 
--- fewer of them are apart
+-- the children that are left still differ from each other
 none-filter : (P Q : BusChild → Bool) (children : List BusChild) → list_any P children ≡ false → list_any P (filter Q children) ≡ false
 none-filter P Q [] none = refl
 none-filter P Q (child ∷ children) none =

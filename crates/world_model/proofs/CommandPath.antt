@@ -1,4 +1,5 @@
--- The path of a command is mapped where nothing else is, and setting and clearing it leave what holds of every soft part.
+-- The path of a command is mapped at a place that nothing else uses, and setting and clearing it leave what holds of
+-- every soft part.
 use Rattle.std.proofs.Common.{◌≡◌, ◌≤◌, ◌<◌, inl, inr, ℕ, Bool, true, false, not, ◌&&◌, ◌||◌, cond, nat_eq, nat_le, List, [], ◌∷◌, length, refl, sym, ap, ◌∙◌, arith}
 use Rattle.std.specs.List.{list_all, list_any}
 use Rattle.std.proofs.lemmas.Bool.{and_from, and_left, and_parts, and_right, eqb-true, or_cases, or_from, or_left, or_right}
@@ -147,7 +148,7 @@ pub clearing_keeps_stacks : PathClearingKeepsStacks
 clearing_keeps_stacks soft kept =
     bases-unmapped_other kind.Stack COMMAND_PATH soft.memory (no_stack soft.next_image soft.next_block soft.memory kept.memory.placed)
 
--- segments that lie from beyond the path's address on have no path
+-- segments that lie after the path's address have no path among them
 beside_after : (from : ℕ) (segments : List Segment) → lie_from from segments ≡ true → COMMAND_PATH < from → list_all is_path_or_beside segments ≡ true → list_all is_beside_path segments ≡ true
 beside_after from [] lies after all = refl
 beside_after from (s ∷ rest) lies after all =

@@ -60,7 +60,7 @@ less-emptied at s = by_large (is_large_block at s)
 
 -- ---- tests
 
--- a test that a large block passes with its bytes where it does without
+-- a test that does not depend on the bytes of a large block
 pub any-emptied : (P : Segment → Bool) (at : ℕ) (segments : List Segment) → ((s : Segment) → is_large_block at s ≡ true → P (emptied s) ≡ P s) → list_any P (all_emptied at segments) ≡ list_any P segments
 any-emptied P at [] same = refl
 any-emptied P at (s ∷ rest) same = by_large (is_large_block at s) refl (any-emptied P at rest same)
@@ -69,7 +69,7 @@ any-emptied P at (s ∷ rest) same = by_large (is_large_block at s) refl (any-em
     by_large true is later = ap (λ (x : Segment). P x || list_any P (all_emptied at rest)) (is-emptied at s is) ∙ ap (λ (b : Bool). b || list_any P (all_emptied at rest)) (same s is) ∙ ap (λ (b : Bool). P s || b) later
     by_large false is later = ap (λ (x : Segment). P x || list_any P (all_emptied at rest)) (is-same at s is) ∙ ap (λ (b : Bool). P s || b) later
 
--- where no segment is the large block, nothing changes
+-- if no segment is the large block, nothing changes
 pub none-emptied : (at : ℕ) (segments : List Segment) → list_any (is_large_block at) segments ≡ false → all_emptied at segments ≡ segments
 none-emptied at [] none = refl
 none-emptied at (s ∷ rest) none =
@@ -178,7 +178,7 @@ mapped-emptied at new (s ∷ rest) same = by_head (nat_lt s.base new.base) refl 
         let also : nat_lt (emptied_at at s).base new.base ≡ false = ap (λ (b : ℕ). nat_lt b new.base) (base-emptied at s) ∙ is in
         rw also (ap (λ (x : Segment). x ∷ (emptied_at at s ∷ all_emptied at rest)) (sym same))
 
--- what lies above a segment at an address is not the large block there
+-- what lies above a segment at an address is not the large block at that address
 none_behind_large : (at : ℕ) (s : Segment) (rest : List Segment) → lie_from (end_of s) rest ≡ true → nat_eq s.base at ≡ true → list_any (is_large_block at) rest ≡ false
 none_behind_large at s rest behind is =
     list_any-none (λ (o : Segment). nat_le (end_of s) o.base) (is_large_block at) rest (λ o high. not_large at o (grind (arith, nat_tests)))
@@ -195,7 +195,7 @@ none_beside low at new (s ∷ rest) lies is = by_head (nat_lt s.base new.base) r
         or_from (is_large_block at s) (list_any (is_large_block at) rest) (not_large at s (grind (arith, nat_tests))) (later parts.1)
     by_head false less order later = none_behind_large at new (s ∷ rest) (and_parts (nat_le low new.base) (lie_from (end_of new) (s ∷ rest)) order).1 is
 
--- no segment can be mapped where the large block is
+-- no segment can be mapped at the address of the large block
 pub not_twice : (low at : ℕ) (new : Segment) (segments : List Segment) → lie_from low (mapped new segments) ≡ true → list_any (is_large_block at) segments ≡ true → is_large_block at new ≡ false
 not_twice low at new segments lies there = by_new (is_large_block at new) refl
   where

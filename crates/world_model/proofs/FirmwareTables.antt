@@ -14,7 +14,7 @@ use Rattle.guest_memory.specs.declared.address_map.TheConstants.{FIRMWARE_IMAGE}
 use Rattle.world_model.specs.Tables.{tables}
 use Rattle.world_model.proofs.Segments.{mapped-behind, unmapped-behind}
 
--- what is written is after segments that can't be written
+-- what is written lies after segments that can't be written
 front-written-more : (s : Segment) (rest : List Segment) (at n value : ℕ) (has : Bool) → has_bytes s at n ≡ has → is_writable s.kind ≡ false → write_answer (s ∷ rest) at n ≡ Ok tt
     → (write_answer rest at n ≡ Ok tt) × (cond has (with_number s at n value ∷ rest) (s ∷ written rest at n value) ≡ s ∷ written rest at n value)
 front-written-more s rest at n value true is fixed done =
@@ -51,7 +51,7 @@ tables-written memory at n value front done =
     let whole = split memory front in
     ap (λ m. take 4 (written m at n value)) whole ∙ ap (take 4) (written-behind tables (drop 4 memory) at n value refl (ap (λ m. write_answer m at n) (sym whole) ∙ done))
 
--- so are bytes that are put where the code may write
+-- so are bytes that are put in a range that code may write
 pub tables-put : (memory : List Segment) (at : ℕ) (bytes : List ℕ) → take 4 memory ≡ tables → is_writable_range memory at (length bytes) ≡ true → take 4 (put_bytes memory at bytes) ≡ tables
 tables-put memory at bytes front can =
     let whole = split memory front in

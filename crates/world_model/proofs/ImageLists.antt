@@ -15,7 +15,7 @@ pub record RiseTo (handle base block next_handle next_image next_block : ℕ) : 
   pub bases : base ≤ next_image
   pub blocks : block ≤ next_block
 
--- what a rising list says of its first image
+-- what a rising list says about its first image
 record First (handle base block : ℕ) (image : LoadedImage) (images : List LoadedImage) (next_handle next_image next_block : ℕ) : Type 0 where
   handles : handle ≤ image.handle
   bases : base ≤ image.base
@@ -169,13 +169,13 @@ all_between handle base block (image ∷ images) next_handle next_image next_blo
 
 -- ---- one image and the others
 
--- whether an image is the same as another by its handle, its address and its block, or by none of them
+-- whether an image has the same handle, address and block as another, or none of the three
 abbrev pub is_same_or_other : LoadedImage → LoadedImage → Bool
 is_same_or_other one image =
     (nat_eq image.handle one.handle && nat_eq image.base one.base && nat_eq image.block one.block)
     || (not (nat_eq image.handle one.handle) && not (nat_eq image.base one.base) && not (nat_eq image.block one.block))
 
--- what is found passes what all pass
+-- what is found passes a test that all pass
 pub found_passes : {A : Type 0} (P Q : A → Bool) (xs : List A) (x : A) → find P xs ≡ Some x → list_all Q xs ≡ true → Q x ≡ true
 found_passes P Q [] x found all = absurd cc
 found_passes {A} P Q (y ∷ xs) x found all =
@@ -208,7 +208,7 @@ all_same_or_other number one handle base block (image ∷ images) next_handle ne
         let here : is_same_or_other one image ≡ true = grind (arith, nat_tests) in
         and_from (is_same_or_other one image) (list_all (is_same_or_other one) images) here (later found)
 
--- without an image its address is gone from those of the images
+-- without an image, its address is not among those of the images
 pub bases-without : (one : LoadedImage) (images : List LoadedImage) → list_all (is_same_or_other one) images ≡ true → bases_of (without_image one.handle images) ≡ filter (λ (b : ℕ). not (nat_eq b one.base)) (bases_of images)
 bases-without one [] all = refl
 bases-without one (image ∷ images) all =

@@ -27,7 +27,7 @@ same_kind kind.Stack kind.Stack h = refl
 same_kind kind.Table kind.Table h = refl
 same_kind a b h = absurd cc
 
--- where a segment that is there lies
+-- the region of a segment that is there
 pub region_of : (image block : ℕ) (kind : SegKind) (base : ℕ) (segments : List Segment) → list_all (is_placed image block) segments ≡ true → begins kind base segments ≡ true
     → (size : ℕ) × (is_in_region image block kind base size ≡ true)
 region_of image block kind base [] placed there = absurd cc
@@ -132,7 +132,7 @@ blocks-unmapped base memory images others all =
 
 -- ---- stacks and lists of children
 
--- each list is beside its stack
+-- each list has its stack
 abbrev pub ListsHaveStacks : List Segment → Type 0
 ListsHaveStacks memory = (level : ℕ) → level ≤ MOST_LEVELS → has_list level memory ≡ true → has_stack level memory ≡ true
 
@@ -157,7 +157,7 @@ lists-mapped_other new memory other stand level to has =
     let before : has_list level memory ≡ true = ap (λ b. b || has_list level memory) (sym no_list) ∙ sym (list_any-mapped list new memory) ∙ has in
     list_any-mapped stack new memory ∙ or_right (stack new) (has_stack level memory) (stand level to before)
 
--- one segment less that is no stack
+-- one fewer segment, which is no stack
 pub lists-unmapped_other : (base : ℕ) (memory : List Segment) → ((level : ℕ) → level ≤ MOST_LEVELS → nat_eq (stack_base level) base ≡ false) → ListsHaveStacks memory → ListsHaveStacks (unmapped memory base)
 lists-unmapped_other base memory other stand level to has =
     let list = λ (s : Segment). nat_eq s.base (list_base level) && is_of kind.Table s in

@@ -94,7 +94,7 @@ tpl_set soft tpl kept = record {
 
 -- ---- the next addresses
 
--- where the next image and the next block lie
+-- the next image and the next block are in their ranges
 pub record Ranges (soft : Soft) : Type 0 where
   pub image_from : FIRST_IMAGE ≤ soft.next_image
   pub image_to : soft.next_image ≤ IMAGE_END
@@ -106,7 +106,7 @@ ranges soft kept =
     let range = images_rise_range 3 FIRST_IMAGE FIRST_BLOCK soft.images soft.database.next soft.next_image soft.next_block kept.images.rising in
     record { image_from = range.bases; image_to = kept.ranges.images; block_from = range.blocks; block_to = kept.ranges.blocks }
 
--- what lies right does so below later addresses
+-- a segment that lies in its region still does if the next addresses are later
 pub in_region-later : (image block more_images more_blocks : ℕ) (of : SegKind) (base size : ℕ) → image ≤ more_images → block ≤ more_blocks → is_in_region image block of base size ≡ true → is_in_region more_images more_blocks of base size ≡ true
 in_region-later image block more_images more_blocks kind.Image base size images blocks right = grind (arith, nat_tests)
 in_region-later image block more_images more_blocks kind.Pool base size images blocks right = grind (arith, nat_tests)
@@ -135,7 +135,7 @@ not_table kind.Image base bytes is = absurd cc
 not_table kind.Stack base bytes is = absurd cc
 not_table kind.Table base bytes is = absurd cc
 
--- it lies right at the next address
+-- it lies in its region at the next address
 pub next_in_region : (image block : ℕ) (of : SegKind) (size : ℕ) → is_block of ≡ true → FIRST_BLOCK ≤ block → is_in_region image (block + block_room size) of block size ≡ true
 next_in_region image block kind.Pool size is from = grind (arith, nat_tests)
 next_in_region image block kind.Firmware size is from = grind (arith, nat_tests)

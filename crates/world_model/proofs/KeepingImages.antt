@@ -81,7 +81,7 @@ fitting soft bytes contents kept some full =
     ap (λ total. nat_lt MOST_BYTES (total + length bytes)) (total-other kind.Image (image_block_segment contents soft) soft.memory refl) in
     image-fits soft.next_image (with_image_block contents soft).next_block (mapped (image_block_segment contents soft) soft.memory) bytes after.memory.placed range.image_from some room.range (same ∙ room.images)
 
--- the next handle is none of those that are live
+-- the next handle is not live
 pub none_next : (next : ℕ) (entries : List HandleEntry) → list_all (is_below next) entries ≡ true → find (is_handle next) entries ≡ None
 none_next next [] below = refl
 none_next next (entry ∷ entries) below =

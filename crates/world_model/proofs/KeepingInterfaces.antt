@@ -64,7 +64,7 @@ installing soft who new kept accepted =
 
 -- ---- uninstalling
 
--- an interface that lasts is not the one that goes
+-- an interface that lasts is not the one that is removed
 lasts : (one two : List ℕ) (a b : ℕ) → (bytes_eq one two && nat_eq a b) ≡ false → (bytes_eq two one && nat_eq b a) ≡ false
 lasts one two a b other = elim (and_cases (bytes_eq one two) (nat_eq a b) other) [
   | inl guids ↦ and_left (bytes_eq two one) (nat_eq b a) (bytes-swap one two false guids)

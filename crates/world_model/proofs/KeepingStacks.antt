@@ -27,7 +27,7 @@ use Rattle.world_model.proofs.ThunkTargets.{targets-mapped, targets-unmapped_oth
 pub fitting : StackFits
 fitting soft level slots kept from to sixteen none = stack-fits soft.next_image soft.next_block soft.memory level slots kept.memory.placed from to sixteen none
 
--- where a level has no stack it has no list
+-- a level without a stack has no list
 no_list : (soft : Soft) (level : ℕ) → IsKept soft → level ≤ MOST_LEVELS → has_stack level soft.memory ≡ false → has_list level soft.memory ≡ false
 no_list soft level kept to none = elim (cases_Bool (has_list level soft.memory)) [
   | inl there ↦ absurd (both_ways (has_stack level soft.memory) none (kept.memory.lists level to there))
@@ -67,7 +67,7 @@ pushed_stack soft level slots kept from to sixteen none =
       ranges = kept.ranges;
     }
 
--- the stack is no list, and it is there
+-- the stack is not a list, and it is there
 no_list_with_stack : (memory : List Segment) (level : ℕ) (slots : List ℕ) → has_list level memory ≡ false → has_list level (mapped (stack_segment level slots) memory) ≡ false
 no_list_with_stack memory level slots none =
     let list = λ (s : Segment). nat_eq s.base (list_base level) && is_of kind.Table s in
@@ -86,7 +86,7 @@ fitting_list soft level slots handles kept from to sixteen none few =
     list-fits soft.next_image soft.next_block (mapped (stack_segment level slots) soft.memory) level handles after.memory.placed from to few
     (no_list_with_stack soft.memory level slots (no_list soft level kept to none))
 
--- with a list of children beside the stack
+-- with a list of children besides the stack
 lists-mapped_list : (memory : List Segment) (level : ℕ) (handles : List ℕ) → has_stack level memory ≡ true → ListsHaveStacks memory → ListsHaveStacks (mapped (list_segment level handles) memory)
 lists-mapped_list memory level handles stands stand other to has =
     let new = list_segment level handles in
@@ -139,7 +139,7 @@ pushing soft level slots (handle ∷ handles) kept from to sixteen none few =
 
 -- ---- popping
 
--- without a stack and its list, each list is beside its stack
+-- without a stack and its list, each other list has its stack
 lists-popped : (soft : Soft) (level : ℕ) → IsKept soft → ListsHaveStacks (unmapped (unmapped soft.memory (stack_base level)) (list_base level))
 lists-popped soft level kept other to has =
     let memory = soft.memory in

@@ -57,7 +57,7 @@ found_is P (y ∷ xs) x found = by_head (P y) refl found (found_is P xs x)
     by_head true is found later = let same : y ≡ x = cc in rw (← same) is
     by_head false is found later = later found
 
--- no two are of one protocol
+-- no two interfaces are of one protocol
 found_left : (image handle : ℕ) (guid : List ℕ) (interfaces : List Interface) → differ interfaces ≡ true
     → find (is_guid guid) (left_on image handle interfaces) ≡ left_in image handle (find (is_guid guid) interfaces)
 found_left image handle guid [] apart = refl
@@ -91,7 +91,7 @@ entries_rise : (image low : ℕ) (entries : List HandleEntry) → rise_from low 
 entries_rise image low entries rises =
     rise_from-filter has_any low (map (without_interfaces_of image own) entries) (rise_from-map (without_interfaces_of image own) (λ entry. refl) low entries ∙ rises)
 
--- no two are of one number
+-- no two handles have the same number
 interfaces_left : (image handle low : ℕ) (entries : List HandleEntry) → rise_from low entries ≡ true
     → interfaces_in (find (is_handle handle) (entries_without image entries)) ≡ left_on image handle (interfaces_in (find (is_handle handle) entries))
 interfaces_left image handle low [] rises = refl
@@ -155,7 +155,7 @@ interface_left image handle guid db sound =
     ∙ ap (option_map looked) found
     ∙ looked_up (find (is_guid guid) (interfaces_of handle db)) image handle guid (interfaces_of handle db) refl
 
--- an interface stays that goes neither by its owner nor as a loaded image interface
+-- an interface that is removed neither for its owner nor as a loaded image interface stays
 has-swept : (image : ℕ) (db : Database) (handle : ℕ) (guid : List ℕ) (address owner : ℕ) → IsSound db → nat_eq owner image ≡ false → is_loaded_image_of image handle guid ≡ false
     → has_interface db handle guid address owner ≡ true → has_interface (database_without image db) handle guid address owner ≡ true
 has-swept image db handle guid address owner sound other apart has =
@@ -212,7 +212,8 @@ filter-twice p q (x ∷ xs) = by_tests (p x) (q x) refl refl (filter-twice p q x
     by_tests true false is is' later = rw is' later
     by_tests false second is is' later = later
 
--- first the records of the image's agents go, and then those whose parties are not all there
+-- first the records of the image's agents are removed, and then those whose parties are not all
+-- there
 pub records-in_turn : (image : ℕ) (before after : Database) (table : RecordTable)
     → with_live_parties after (without_agents_of image (known_guid DriverBinding) before table) ≡ records_without image before after table
 records-in_turn image before after table =

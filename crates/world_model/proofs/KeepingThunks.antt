@@ -17,12 +17,12 @@ use Rattle.world_model.specs.Kept.{enters_image}
 use Rattle.world_model.specs.Keeping.{MakingKeeps}
 use Rattle.world_model.proofs.ThunkTargets.{numbers-push}
 
--- where an image is contents, some segment has the address
+-- if an image is found at the address of a segment, there is such a segment
 some_image : (found : Option Segment) (images : List LoadedImage) → is_some (image_from (option_map (λ (segment : Segment). segment.base) found) images) ≡ true → is_some found ≡ true
 some_image None images some = absurd cc
 some_image (Some segment) images some = refl
 
--- a number is left where one is answered
+-- if a number is answered, a number is left
 left : (full : Bool) (address : ℕ) → is_ok {E = WorldFault} (if full then Err Full else Ok address) ≡ true → full ≡ false
 left true address ok = absurd cc
 left false address ok = refl

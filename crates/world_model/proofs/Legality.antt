@@ -74,7 +74,7 @@ any_more p q (x ∷ xs) more some = elim (or_cases (p x) (list_any p xs) some) [
   | inr later ↦ or_right (q x) (list_any q xs) (any_more p q xs more later)
 ]
 
--- a relation that each has to itself, each has to one of the list
+-- if each element of a list has a relation to itself, each has it to an element of the list
 all_among : {X : Type 0} (p : X → X → Bool) (all xs : List X) → ((x : X) → p x x ≡ true) → ((x : X) → list_any (p x) xs ≡ true → list_any (p x) all ≡ true) → list_all (λ x. list_any (p x) all) xs ≡ true
 all_among p all [] itself more = refl
 all_among p all (x ∷ xs) itself more =

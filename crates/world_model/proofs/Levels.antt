@@ -19,7 +19,7 @@ use Rattle.world_model.proofs.StackLaws.{pushing, stack_of_level}
 abbrev kept_leaves : ℕ → Soft → Bool
 kept_leaves left soft = all_leave_levels left (stacks soft)
 
--- the stack of the next level ends where the last ones begin
+-- the stack of the next level ends at the address at which the last ones begin
 next_base : (left : ℕ) → left < MOST_LEVELS → stack_base (MOST_LEVELS - left) + STACK_SIZE * left ≡ stack_base MOST_LEVELS
 next_base left more = omega (arith, more)
 

@@ -101,7 +101,7 @@ filter_none : {X : Type 0} (xs : List X) → filter (λ x. true) xs ≡ xs
 filter_none [] = refl
 filter_none (x ∷ xs) = ap (λ others. x ∷ others) (filter_none xs)
 
--- the records of an interface in a part of the table, if whether a record is in it is a test of the record
+-- the records of an interface in a part of the table that is chosen by a test of the records
 records_of-filter : (keep : KeyedRecord → Bool) (test : Rec → Bool) (handle : ℕ) (guid : List ℕ) (keyed : List KeyedRecord) → ((one : KeyedRecord) → is_of handle guid one ≡ true → keep one ≡ test one.rec)
     → records_of (filter keep keyed) handle guid ≡ filter test (records_of keyed handle guid)
 records_of-filter keep test handle guid [] same = refl
@@ -234,7 +234,7 @@ module _ (keyed : List KeyedRecord) (handle : ℕ) (guid : List ℕ) where
   stays : (of : ℕ) (of_guid : List ℕ) → is_same handle guid of of_guid ≡ false → records_of after of of_guid ≡ records_of keyed of of_guid
   stays of of_guid other = cut_not_elsewhere table handle guid (is_meant None None ALL_BITS) of of_guid other
 
-  -- the interfaces of the handle, of which one goes
+  -- the interfaces of the handle, of which one is removed
   same_handle : (of : ℕ) (interfaces : List Interface)
       → map (interface_view after of) (filter (λ (listed : Interface). not (is_guid guid listed)) interfaces) ≡ filter (λ (i : InterfaceNode). not (bytes_eq i.guid guid)) (map (interface_view keyed of) interfaces)
   same_handle of [] = refl

@@ -96,7 +96,7 @@ block_room_left pool firmware blocks next_block count small one two three four =
 handle_room_left : (limit handles next count : ℕ) → count < MOST_ROOTS → limit ≡ MOST_HANDLES → handles ≡ 2 + count → next ≡ 3 + count → (nat_le limit handles || nat_le HANDLE_NUMBER_END next) ≡ false
 handle_room_left limit handles next count small one two three = grind (arith, nat_tests)
 
--- one block more
+-- one more block
 pub count-mapped : (new : Segment) (segments : List Segment) → block_count (mapped new segments) ≡ block_count (new ∷ segments)
 count-mapped new [] = refl
 count-mapped new (s ∷ rest) =

@@ -1,4 +1,4 @@
--- What open records name is there, as interfaces come and go.
+-- What open records name is there, as interfaces are installed and removed.
 use Rattle.std.proofs.Common.{◌≡◌, inl, inr, ℕ, Bool, true, false, not, ◌&&◌, ◌||◌, cond, nat_eq, bytes_eq, List, [], ◌∷◌, ◌++◌, map, filter, find, Option, Some, None, refl, sym, ap, ◌∙◌, arith}
 use Rattle.std.specs.Prelude.{is_some, option_map, if◌then◌else◌}
 use Rattle.std.specs.List.{list_all, list_any}
@@ -42,7 +42,7 @@ found_itself i =
     let two : nat_eq i.owner i.owner ≡ true = grind (arith, nat_tests) in
     rw (one, two) refl
 
--- an interface that is contents is there
+-- a handle has an interface that is found
 pub has_from : (handle : ℕ) (guid : List ℕ) (db : Database) → is_some (interface_of handle guid db) ≡ true → has handle guid db ≡ true
 has_from handle guid db some = sym (find_any (is_guid guid) (interfaces_of handle db)) ∙ by_found (find (is_guid guid) (interfaces_of handle db)) some
   where
@@ -50,7 +50,7 @@ has_from handle guid db some = sym (find_any (is_guid guid) (interfaces_of handl
     by_found None some = absurd cc
     by_found (Some i) some = refl
 
--- a handle has a protocol in one database that it has in another, where each of its interfaces stays
+-- a handle has a protocol that it has in another database, if each of its interfaces there stays
 has_by : (handle : ℕ) (guid : List ℕ) (db after : Database)
     → ((address owner : ℕ) → has_interface db handle guid address owner ≡ true → has_interface after handle guid address owner ≡ true)
     → has handle guid db ≡ true → has handle guid after ≡ true
@@ -132,7 +132,7 @@ pub records-filter : (test : KeyedRecord → Bool) (db : Database) (table : Reco
 records-filter test db table opens =
     record { sound = filter_sound test table opens.sound; limit = opens.limit; parties = list_all-filter (are_parties_live db) test table.entries opens.parties }
 
--- ---- an interface that comes
+-- ---- an interface that is installed
 
 pub records-installed : (who : Option ℕ) (new : Interface) (db : Database) (table : RecordTable) → AreRecordsKept db table → AreRecordsKept (installed who new db) table
 records-installed who new db table opens = record {
@@ -152,7 +152,7 @@ records-installed who new db table opens = record {
       opens.parties;
 }
 
--- ---- an interface that goes
+-- ---- an interface that is removed
 
 -- a record that stays is of another interface
 of_other : (handle : ℕ) (guid : List ℕ) (one : KeyedRecord) → is_kept one ≡ true → not (is_of handle guid one && is_meant None None ALL_BITS one.rec) ≡ true → (bytes_eq one.guid guid && nat_eq one.handle handle) ≡ false
@@ -165,7 +165,7 @@ of_other handle guid one kept stays = by_tests (nat_eq one.handle handle) (bytes
     by_tests false true meant is stays = refl
     by_tests false false meant is stays = refl
 
--- a live handle stays live, unless it is the one whose interface goes
+-- a live handle stays live, unless it is the one whose interface is removed
 live_still : (number handle : ℕ) (guid : List ℕ) (db : Database) → DatabaseIsSound db → (nat_eq number handle ≡ true → is_live number (removed handle guid db) ≡ true) → is_live number db ≡ true → is_live number (removed handle guid db) ≡ true
 live_still number handle guid db sound same live = elim (cases_Bool (nat_eq number handle)) [
   | inl here ↦ same here
@@ -177,7 +177,7 @@ abbrev stays_named : Database → Database → KeyedRecord → Bool
 stays_named after db one = has one.handle one.guid after && are_parties_live db one
 
 module _ (handle : ℕ) (guid : List ℕ) (db : Database) (table : RecordTable) (sound : DatabaseIsSound db) (opens : AreRecordsKept db table) where
-  -- an interface's records go, and those of others are of interfaces that are there
+  -- an interface's records are removed, and those that stay are of interfaces that are there
   left_named : list_all (stays_named (removed handle guid db) db) (cut handle guid (is_meant None None ALL_BITS) table).entries ≡ true
   left_named =
       list_all-filter_both (λ (one : KeyedRecord). are_parties_live db one && is_kept one) (λ (one : KeyedRecord). not (is_of handle guid one && is_meant None None ALL_BITS one.rec)) (stays_named (removed handle guid db) db) table.entries
@@ -190,7 +190,7 @@ module _ (handle : ℕ) (guid : List ℕ) (db : Database) (table : RecordTable) 
       parts.0)
       (list_all-both (are_parties_live db) is_kept (λ (one : KeyedRecord). are_parties_live db one && is_kept one) table.entries (λ one is kept. and_from (are_parties_live db one) (is_kept one) is kept) opens.parties opens.sound.kept)
 
-  -- what a record names is there, where a handle that is not is not named
+  -- what a record names is there, if it does not name the handle once that is not live
   still_live : (one : KeyedRecord) → stays_named (removed handle guid db) db one ≡ true → (nat_eq one.rec.agent handle ≡ true → is_live one.rec.agent (removed handle guid db) ≡ true)
       → (nat_eq one.rec.controller handle ≡ true → is_live one.rec.controller (removed handle guid db) ≡ true) → are_parties_live (removed handle guid db) one ≡ true
   still_live one is agent controller =

@@ -17,7 +17,7 @@ pub meets-apart : (a b : Segment) → (end_of a ≤ b.base) ⊎ (end_of b ≤ a.
 meets-apart a b (inl before) = grind (arith, nat_tests)
 meets-apart a b (inr behind) = grind (arith, nat_tests)
 
--- ---- what lies right, by its kind
+-- ---- segments in their regions, by kind
 
 -- it ends before the next block
 pub before_block : (image block : ℕ) (kind : SegKind) (base size : ℕ) → is_in_region image block kind base size ≡ true → image ≤ IMAGE_END → FIRST_BLOCK ≤ block → base + max 1 size ≤ block
@@ -37,7 +37,7 @@ around_image image block Table base size right from = inl (grind (arith, nat_tes
 
 -- ---- levels
 
--- a segment that lies right and is not the stack of a level does not meet it
+-- a segment that lies in its region and is not the stack of a level does not meet that stack
 pub around_stack : (image block : ℕ) (level : ℕ) (kind : SegKind) (base size : ℕ) → is_in_region image block kind base size ≡ true → 0 < level → level ≤ MOST_LEVELS
     → (nat_eq base (stack_base level) && nat_eq (kind_number kind) (kind_number Stack)) ≡ false
     → (base + max 1 size ≤ stack_base level) ⊎ (stack_base level + STACK_SIZE ≤ base)
@@ -56,7 +56,8 @@ around_stack image block level Stack base size right from to other =
       | inr sides ↦ elim sides [ inl below ↦ inl (grind (arith, nat_tests)) | inr above ↦ inr (grind (arith, nat_tests)) ]
     ]
 
--- a segment that lies right and is not the list of children of a level does not meet it
+-- a segment that lies in its region and is not the list of children of a level does not meet that
+-- list
 pub around_list : (image block : ℕ) (level : ℕ) (kind : SegKind) (base size : ℕ) → is_in_region image block kind base size ≡ true → 0 < level → level ≤ MOST_LEVELS
     → (nat_eq base (list_base level) && nat_eq (kind_number kind) (kind_number Table)) ≡ false
     → (base + max 1 size ≤ list_base level) ⊎ (list_base level + LIST_ROOM ≤ base)

@@ -52,7 +52,7 @@ step soft bridge = root_added bridge.0 soft
 abbrev pub is_under : ℕ → Segment → Bool
 is_under high segment = nat_lt segment.base high
 
--- all that is there lies below the next handle and the next block
+-- everything that is there lies below the next handle and the next block
 pub record IsBelowNext (soft : Soft) : Type 0 where
   pub handles : list_all (is_below soft.database.next) soft.database.handles ≡ true
   pub segments : list_all (is_under soft.next_block) soft.memory ≡ true

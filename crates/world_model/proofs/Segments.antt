@@ -18,7 +18,7 @@ list_all-mono P Q (x ∷ xs) more all =
     let parts = and_parts (P x) (list_all P xs) all in
     and_from (Q x) (list_all Q xs) (more x parts.0) (list_all-mono P Q xs more parts.1)
 
--- where all pass one test, what passes a second passes a third
+-- if whatever passes two tests passes a third, and all pass both, all pass the third
 pub list_all-both : {A : Type 0} (O P Q : A → Bool) (xs : List A) → ((x : A) → O x ≡ true → P x ≡ true → Q x ≡ true) → list_all O xs ≡ true → list_all P xs ≡ true → list_all Q xs ≡ true
 list_all-both O P Q [] more all also = refl
 list_all-both O P Q (x ∷ xs) more all also =
@@ -26,7 +26,7 @@ list_all-both O P Q (x ∷ xs) more all also =
     let others = and_parts (P x) (list_all P xs) also in
     and_from (Q x) (list_all Q xs) (more x parts.0 others.0) (list_all-both O P Q xs more parts.1 others.1)
 
--- where all pass one test, none passes another
+-- if all pass one test, none passes another
 pub list_any-none : {A : Type 0} (P Q : A → Bool) (xs : List A) → ((x : A) → P x ≡ true → Q x ≡ false) → list_all P xs ≡ true → list_any Q xs ≡ false
 list_any-none P Q [] none all = refl
 list_any-none P Q (x ∷ xs) none all =
@@ -137,7 +137,7 @@ unmapped-behind (s ∷ front) rest base before =
     let other : nat_eq s.base base ≡ false = grind (arith, nat_tests, parts.0) in
     rw (other, unmapped-behind front rest base parts.1) refl
 
--- where all pass one test and none another, none passes a third
+-- if all pass one test and none another, none passes a third
 pub list_any-neither : {A : Type 0} (O P Q : A → Bool) (xs : List A) → ((x : A) → O x ≡ true → P x ≡ false → Q x ≡ false) → list_all O xs ≡ true → list_any P xs ≡ false → list_any Q xs ≡ false
 list_any-neither O P Q [] none all other = refl
 list_any-neither O P Q (x ∷ xs) none all other =
@@ -156,7 +156,7 @@ list_all-filter_both {A} O P Q (x ∷ xs) more all =
     by_head true h one later = and_from (Q x) (list_all Q (filter P xs)) (more x one h) later
     by_head false h one later = later
 
--- what none passes
+-- all fail a test that none passes
 pub list_all-not : {A : Type 0} (P : A → Bool) (xs : List A) → list_any P xs ≡ false → list_all (λ (x : A). not (P x)) xs ≡ true
 list_all-not P [] none = refl
 list_all-not P (x ∷ xs) none =
@@ -182,7 +182,7 @@ none_before kind base from (s ∷ rest) lies before =
     let from_here : from ≤ s.base = grind (arith, nat_tests, order.0) in
     rw other (none_before kind base (end_of s) rest order.1 (omega arith))
 
--- what is unmapped is there no more
+-- what is unmapped is no longer there
 pub none-unmapped : (kind : SegKind) (base from : ℕ) (segments : List Segment) → lie_from from segments ≡ true → begins kind base (unmapped segments base) ≡ false
 none-unmapped kind base from [] lies = refl
 none-unmapped kind base from (s ∷ rest) lies =

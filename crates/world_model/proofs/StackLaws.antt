@@ -1,4 +1,4 @@
--- Which stacks stand, as each single change leaves them.
+-- Which stacks are there, as each single change leaves them.
 use Rattle.std.proofs.Common.{◌≡◌, ◌≤◌, ℕ, Bool, true, false, not, ◌&&◌, ◌||◌, cond, nat_eq, nat_le, nat_lt, List, [], ◌∷◌, length, filter, Option, Some, None, refl, sym, ap, ◌∙◌, arith}
 use Rattle.std.specs.List.{list_all, list_any}
 use Rattle.std.proofs.lemmas.Bool.{and_from, and_parts, and_right, or_from, or_parts, or_right}
@@ -42,7 +42,7 @@ begins_in of base (s ∷ rest) = by_kind (is_of of s) refl (begins_in of base re
 pub stack_of_level : StackOfLevel
 stack_of_level soft level = begins_in kind.Stack (stack_base level) soft.memory
 
--- no stack begins where none may lie
+-- no stack begins outside the range of stacks
 no_stack : (next block base : ℕ) (segments : List Segment) → list_all (is_placed next block) segments ≡ true → FIRST_IMAGE ≤ base → begins kind.Stack base segments ≡ false
 no_stack next block base [] placed away = refl
 no_stack next block base (s ∷ rest) placed away =
@@ -56,7 +56,7 @@ no_stack next block base (s ∷ rest) placed away =
     other next block at kind.Firmware base size right away = and_right (nat_eq base at) false refl
     other next block at kind.Table base size right away = and_right (nat_eq base at) false refl
 
--- nor where a list of children lies
+-- nor at the address of a list of children
 no_stack_at_list : (next block level : ℕ) (segments : List Segment) → list_all (is_placed next block) segments ≡ true → begins kind.Stack (list_base level) segments ≡ false
 no_stack_at_list next block level [] placed = refl
 no_stack_at_list next block level (s ∷ rest) placed =
@@ -118,7 +118,7 @@ dropping soft handle kept = by_image (image_of handle soft.images) refl
     by_image None is = refl
     by_image (Some one) is = dropping_one soft handle one kept is
 
--- what a sweep unmaps is what dropping the image does
+-- a sweep unmaps the same as dropping the image does
 pub sweeping : SweepingKeepsStacks
 unfolding image_swept
 sweeping soft image kept = by_image (image_of image soft.images) refl

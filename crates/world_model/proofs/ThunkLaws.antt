@@ -1,4 +1,4 @@
--- A thunk is found once it is made, enters an image, and goes with that image.
+-- A thunk is found once it is made, enters an image, and is removed with that image.
 use Rattle.std.proofs.Common.{◌≡◌, ◌≤◌, ℕ, ◌+◌, Bool, true, false, not, ◌&&◌, ◌||◌, cond, nat_eq, nat_le, nat_lt, List, [], ◌∷◌, ◌++◌, filter, find, Option, Some, None, refl, sym, ap, ◌∙◌, subst, inl, inr, ◌⊎◌, arith}
 use Rattle.std.specs.Prelude.{Result, Ok, is_some, option_map}
 use Rattle.std.specs.List.{list_all, list_any}
@@ -71,7 +71,7 @@ base_listed at (s ∷ rest) one found = by_head (is_image s.kind) (has_bytes s a
     by_head true false is found later = rw (bases-cons kind.Image true s rest is) (or_right (nat_eq one.base s.base) (list_any (nat_eq one.base) (bases kind.Image rest)) (later found))
     by_head false has is found later = rw (bases-cons kind.Image false s rest is) (later found)
 
--- an image is contents where its address is listed
+-- an image is found at an address that is listed among those of images
 image_listed : (base : ℕ) (images : List LoadedImage) → list_any (nat_eq base) (bases_of images) ≡ true → is_some (image_from (Some base) images) ≡ true
 image_listed base [] listed = absurd cc
 image_listed base (image ∷ images) listed =
@@ -136,11 +136,11 @@ begins_from base from (s ∷ rest) one lies found =
     by_head true first found later = let same : s ≡ one = cc in subst (λ (x : Segment). from ≤ x.base) same first
     by_head false first found later = let behind = later found in omega arith
 
--- what a segment has no segment after it has
+-- no segment after one has an address that this one has
 behind_has : (s one : Segment) (at : ℕ) → has_bytes s at 1 ≡ true → end_of s ≤ one.base → has_bytes one at 1 ≡ false
 behind_has s one at has behind = grind (arith, nat_tests)
 
--- an image has an address exactly where it is the one that is found with it
+-- an image has an address exactly if it is the one that is found with that address
 only_one : (at base from : ℕ) (segments : List Segment) (code one : Segment) → lie_from from segments ≡ true → find (has_code at) segments ≡ Some code → beginning_at segments base ≡ Ok one
     → is_image one.kind ≡ true → has_bytes one at 1 ≡ nat_eq code.base base
 only_one at base from [] code one lies found is image = absurd cc
@@ -208,7 +208,8 @@ image_there base from (s ∷ rest) lies there =
         let there = later there in
         record { segment = there.segment; is = rw is there.is; image = there.image }
 
--- the image that begins at an address is that of a handle exactly where it is at the handle's image's
+-- the image that begins at an address is that of a handle exactly if the address is that of the
+-- handle's image
 that_image : (number : ℕ) (one : LoadedImage) (images : List LoadedImage) (base : ℕ) → list_all (is_same_or_other one) images ≡ true → image_of number images ≡ Some one
     → is_image_handle number (image_from (Some base) images) ≡ nat_eq base one.base
 that_image number one images base all found = by_found (find (λ (i : LoadedImage). nat_eq i.base base) images) refl
@@ -230,7 +231,7 @@ that_image number one images base all found = by_found (find (λ (i : LoadedImag
         let both = found_passes (λ (i : LoadedImage). nat_eq i.base base) (is_same_or_other one) images image is all in
         ap (λ (n : ℕ). nat_eq image.handle n) (sym of) ∙ same_tests (nat_eq image.handle one.handle) (nat_eq image.base one.base) (nat_eq image.block one.block) both ∙ ap (λ (n : ℕ). nat_eq n one.base) at
 
--- two tests that are the same where a third passes
+-- two tests that agree on whatever passes a third
 filter_with : {A : Type 0} (O P Q : A → Bool) (xs : List A) → ((x : A) → O x ≡ true → P x ≡ Q x) → list_all O xs ≡ true → filter P xs ≡ filter Q xs
 filter_with O P Q [] same all = refl
 filter_with O P Q (x ∷ xs) same all =

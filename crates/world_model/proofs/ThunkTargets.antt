@@ -22,7 +22,7 @@ use Rattle.world_model.proofs.Segments.{list_all-filter_both, list_all-mono, lis
 abbrev pub has_code : ℕ → Segment → Bool
 has_code at segment = is_image segment.kind && has_bytes segment at 1
 
--- something is found where something passes
+-- something is found exactly if something passes
 pub is_some-find : {A : Type 0} (P : A → Bool) (xs : List A) → is_some (find P xs) ≡ list_any P xs
 is_some-find P [] = refl
 is_some-find {A} P (x ∷ xs) = by_head (P x) (is_some-find P xs)
@@ -31,7 +31,7 @@ is_some-find {A} P (x ∷ xs) = by_head (P x) (is_some-find P xs)
     by_head true later = refl
     by_head false later = later
 
--- what is entered in one memory is entered in another that has code where it has
+-- what thunks enter in one memory they enter in another that has code at the same addresses
 targets-same : (memory other : List Segment) (thunks : List Thunk) → ((at : ℕ) → list_any (has_code at) memory ≡ true → list_any (has_code at) other ≡ true)
     → list_all (enters_image memory) thunks ≡ true → list_all (enters_image other) thunks ≡ true
 targets-same memory other thunks more all =
@@ -104,7 +104,7 @@ code-unmapped_one at base (s ∷ rest) one found none = by_head (nat_eq s.base b
         rw no refl
     by_head false found later = ap (λ b. has_code at s || b) (later found)
 
--- nothing goes where nothing begins
+-- nothing is removed if nothing begins at the address
 unmapped-none : (segments : List Segment) (base : ℕ) (refusal : MemRefusal) → beginning_at segments base ≡ Err refusal → unmapped segments base ≡ segments
 unmapped-none [] base refusal none = refl
 unmapped-none (s ∷ rest) base refusal none = by_head (nat_eq s.base base) none (λ later. unmapped-none rest base refusal later)

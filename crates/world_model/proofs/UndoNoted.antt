@@ -1,4 +1,4 @@
--- Each change, made and taken back; and what is noted, beside the stacks that a mark leaves out.
+-- Each change, made and taken back; and what is noted, without the stacks that a mark leaves out.
 use Rattle.std.proofs.Common.{◌≡◌, ◌≤◌, ◌<◌, ℕ, ◌+◌, ◌-◌, Bool, true, false, cond, nat_eq, nat_le, nat_lt, List, [], ◌∷◌, ◌++◌, length, take, filter, set, Option, Some, None, refl, sym, ap, subst, ◌∙◌, arith, length-append}
 use Rattle.std.specs.Prelude.{Ok, Result, is_ok, is_some, option_map, slice_set}
 use Rattle.std.specs.List.{list_all}
@@ -57,7 +57,7 @@ some-writable : (of : Option Segment) → is_writable_holder of ≡ true → is_
 some-writable None can = absurd cc
 some-writable (Some s) can = refl
 
--- the bytes of before, put back
+-- the earlier bytes, put back
 restored : (segments : List Segment) (at : ℕ) (bytes : List ℕ) → is_writable_holder (holder segments at (length bytes)) ≡ true
     → put_if_there at (bytes_of segments at (length bytes)) (put_bytes segments at bytes) ≡ segments
 restored segments at bytes can =
@@ -266,9 +266,9 @@ bus_list_is_noted soft function images =
     set-set lists function (Some images) (rom_images function soft) ∙ ap (set lists function) (unwrap_or-slice_get lists function None) ∙ set-get_or lists function None in
     record { back = ap (λ (lists : List (Option (List ℕ))). record soft { bus_lists = lists }) same; stacks = refl; rises = omega arith; beside = refl; fits = tt }
 
--- ---- beside the stacks that are left out
+-- ---- without the stacks that are left out
 
--- without segments that a change has nothing to do with, it is taken back the same
+-- without segments that have nothing to do with a change, it is taken back with the same result
 beside : (p : ℕ → Bool) (change : Change) (soft : Soft) → lie_from 0 soft.memory ≡ true → list_all p (addresses_in change) ≡ true
     → taken_back change (with_memory (at_addresses p soft.memory) soft) ≡ with_memory (at_addresses p (taken_back change soft).memory) (taken_back change soft)
 unfolding taken_back

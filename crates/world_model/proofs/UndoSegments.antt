@@ -169,14 +169,14 @@ put_there-none-more : (at : ℕ) (bytes : List ℕ) (s : Segment) (rest : List S
 put_there-none-more at bytes s rest true own none later = absurd cc
 put_there-none-more at bytes s rest false own none later = ap (λ xs. s ∷ xs) later
 
--- where no segment has the range
+-- if no segment has the range
 pub put_there-none : (at : ℕ) (bytes : List ℕ) (segments : List Segment) → list_all (λ (s : Segment). not (has_bytes s at (length bytes))) segments ≡ true → put_there at bytes segments ≡ segments
 put_there-none at bytes [] none = refl
 put_there-none at bytes (s ∷ rest) none =
     let parts = and_parts (not (has_bytes s at (length bytes))) (list_all (λ (s : Segment). not (has_bytes s at (length bytes))) rest) none in
     put_there-none-more at bytes s rest (has_bytes s at (length bytes)) (is_writable s.kind) parts.0 (put_there-none at bytes rest parts.1)
 
--- a segment after one that has a range has none of it
+-- a segment after one that has a range has no byte of it
 apart_behind : (s r : Segment) (at n : ℕ) → 0 < n → has_bytes s at n ≡ true → nat_le (end_of s) r.base ≡ true → not (has_bytes r at n) ≡ true
 apart_behind s r at n some has behind = grind (arith, nat_tests, some, has, behind)
 
@@ -267,7 +267,7 @@ unmapped-is from base (s ∷ rest) lies =
         let stays : not (nat_eq s.base base) ≡ true = rw is refl in
         ap (λ xs. s ∷ xs) later ∙ sym (at-cons (λ (b : ℕ). not (nat_eq b base)) true s rest stays)
 
--- where the segments of a kind begin
+-- the addresses at which the segments of a kind begin
 pub bases-at : (of : SegKind) (p : ℕ → Bool) (segments : List Segment) → bases of (at_addresses p segments) ≡ filter p (bases of segments)
 bases-at of p [] = refl
 bases-at of p (s ∷ rest) = by_tests (p s.base) (is_of of s) refl refl (bases-at of p rest)
@@ -291,7 +291,7 @@ bases-at of p (s ∷ rest) = by_tests (p s.base) (is_of of s) refl refl (bases-a
         ap (bases of) (at-cons p false s rest h) ∙ later
         ∙ sym (ap (filter p) (bases-cons of false s rest k))
 
--- what no segment passes, none that is left does
+-- if no segment passes a test, none that is left does
 pub list_any-none_left : (P Q : Segment → Bool) (segments : List Segment) → list_any P segments ≡ false → list_any P (filter Q segments) ≡ false
 list_any-none_left P Q [] none = refl
 list_any-none_left P Q (s ∷ rest) none =

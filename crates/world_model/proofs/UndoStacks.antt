@@ -151,7 +151,7 @@ pub left_stack_is_there : LeftStackIsThere
 left_stack_is_there soft levels level none =
     list_any-none_left (λ (s : Segment). nat_eq s.base (stack_base level) && is_of kind.Stack s) (λ (s : Segment). stays (later_levels levels) s.base) soft.memory none
 
--- ---- where no later level has a stack
+-- ---- if no later level has a stack
 
 no-list : (soft : Soft) (level : ℕ) → IsKept soft → level ≤ MOST_LEVELS → has_stack level soft.memory ≡ false → has_list level soft.memory ≡ false
 no-list soft level kept to none = by_list (has_list level soft.memory) refl
@@ -160,7 +160,7 @@ no-list soft level kept to none = by_list (has_list level soft.memory) refl
     by_list true has = absurd (both_ways (has_stack level soft.memory) none (kept.memory.lists level to has))
     by_list false has = has
 
--- a segment that lies right and is neither the stack nor the list of a level lies elsewhere
+-- a segment that lies in its region and is neither the stack nor the list of a level lies elsewhere
 elsewhere : (image block level : ℕ) (of : SegKind) (base size : ℕ) → is_in_region image block of base size ≡ true → 0 < level → level ≤ MOST_LEVELS
     → (nat_eq base (stack_base level) && nat_eq (kind_number of) (kind_number kind.Stack)) ≡ false → (nat_eq base (list_base level) && nat_eq (kind_number of) (kind_number kind.Table)) ≡ false
     → not (nat_eq base (stack_base level) || nat_eq base (list_base level)) ≡ true

@@ -1,5 +1,6 @@
--- A mark that is older than a large block of the pool does not need the block's bytes: to take back the changes since the
--- mark takes the block away too, so it leaves the same whether a free of the block was noted with its bytes or without.
+-- A mark that is older than a large block of the pool does not need the block's bytes. Taking back the changes since
+-- the mark removes the block too, so the result is the same whether a free of the block was noted with its bytes or
+-- without.
 use Rattle.std.specs.Prelude.{◌≡◌, ℕ, ◌≤◌, Bool, true, ◌&&◌, nat_eq, nat_lt, List, [], length, map, Ok, if◌then◌else◌}
 use Rattle.guest_memory.specs.declared.segment.Segment.{Segment}
 use Rattle.guest_memory.specs.declared.segment.SegKind.{SegKind}
@@ -18,8 +19,8 @@ use Rattle.world_model.specs.UndoLaws.{CanUndo, IsNoted}
 
 -- ---- a block without its bytes
 
--- Whether a segment is a large block at an address: one of the pool, of more bytes than a loaded image block has, so that it is
--- none.
+-- Whether a segment is a large block at an address: a block of the pool with more bytes than a loaded image block has,
+-- so it is not one of those.
 abbrev pub is_large_block : (at : ℕ) → Segment → Bool
 is_large_block at segment = is_of Pool segment && (nat_eq segment.base at && nat_lt block_size (length segment.bytes))
 
@@ -41,18 +42,18 @@ block_emptied at soft = with_memory (map (emptied_at at) soft.memory) soft
 abbrev pub EmptyingKeeps : Type 0
 EmptyingKeeps = (soft : Soft) (at : ℕ) → IsKept soft → IsKept (block_emptied at soft)
 
--- to free a large block without its bytes is noted with none, and leaves the same
+-- the free of a large block without its bytes is noted without bytes, and leaves the same
 abbrev pub EmptyFreeIsNoted : Type 0
 EmptyFreeIsNoted =
     (soft : Soft) (at : ℕ) (kind : SegKind) (segment : Segment) → IsKept soft → is_block kind ≡ true → free_answer at kind soft ≡ Ok tt → beginning_at soft.memory at ≡ Ok segment → is_large_block at segment ≡ true
     → IsNoted (Free (emptied segment)) (block_emptied at soft) (block_freed at soft)
 
--- it is the same whether the bytes go first, or the stacks that are left out
+-- the result is the same whether the block's bytes are removed first, or the stacks that are left out
 abbrev pub EmptiedBesideStacks : Type 0
 EmptiedBesideStacks = (soft : Soft) (at : ℕ) (levels : StackLevels) → without_stacks (later_levels levels) (block_emptied at soft) ≡ block_emptied at (without_stacks (later_levels levels) soft)
 
--- Changes that can be taken back can be without the bytes of a block, and leave the same, if the next block lay at its address
--- or before it.
+-- Changes that can be taken back can also be taken back without the bytes of a block, and leave the same, if the next
+-- block lay at the block's address or before it.
 abbrev pub UndoneWithoutBytes : Type 0
 UndoneWithoutBytes =
     (changes : List Change) (soft : Soft) (at : ℕ) → IsKept soft → CanUndo changes soft → (undone changes soft).next_block ≤ at

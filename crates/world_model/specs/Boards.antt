@@ -38,7 +38,7 @@ root_at handle bridges = if nat_lt handle first_root then None else slice_get br
 abbrev pub has_root_bridge_io : (handle : ℕ) → Database → Bool
 has_root_bridge_io handle db = option_map_or (λ found. nat_eq found.1 firmware) (interface_of handle (known_guid RootBridgeIo) db) false
 
--- the bus below a root bridge, if the handle is one's and still has its root bridge I/O
+-- the bus below a root bridge, if the handle is that of a root bridge and still has root bridge I/O
 abbrev pub root_bus : (handle : ℕ) → State → Option ℕ
 root_bus handle w =
     if has_root_bridge_io handle w.soft.database
@@ -51,7 +51,7 @@ is_root_full uid soft = is_block_full (length (root_path uid)) soft || is_full s
 
 -- ---- option ROMs
 
--- the bytes of each, from how code has them
+-- the bytes of each option ROM, from the form in which the code has them
 abbrev pub roms_in : List (Option (Vec ℕ Global)) → List (Option (List ℕ))
 roms_in roms = map (option_map (λ (rom : Vec ℕ Global). rom.items)) roms
 
@@ -74,7 +74,7 @@ RootsAreThere =
     (functions : ℕ) (bridges : List (ℕ × ℕ)) (place : ℕ) (bridge : ℕ × ℕ) → slice_get bridges place ≡ Some bridge
     → HasRoot (first_root + place) (FIRST_BLOCK + 16 * place) bridge.0 (opening_soft functions bridges)
 
--- beside them there are the handles of the firmware and of the bus driver
+-- the only other handles are those of the firmware and of the bus driver
 abbrev pub OpeningHandles : Type 0
 OpeningHandles =
     (functions : ℕ) (bridges : List (ℕ × ℕ)) → handles_with None (opening_soft functions bridges).database ≡ range_with_len 1 (2 + length bridges)

@@ -51,8 +51,8 @@ pci_at this soft = function_at this soft.bus_children
 abbrev pub pci_io_of : (handle : ℕ) → Database → ℕ
 pci_io_of handle db = option_map_or (λ found. found.0) (interface_of handle (known_guid PciIo) db) 0
 
--- A function becomes that of a handle, until the handle's PCI I/O is removed. A number that is no function's of
--- the board changes nothing: there is a bus list for each function.
+-- A function becomes that of a handle, until the handle's PCI I/O is removed. A number that is not that of a
+-- function of the board changes nothing: there is a bus list for each function.
 abbrev pub child_noted : (handle function : ℕ) → Soft → Soft
 child_noted handle function soft =
     if nat_lt function (length soft.bus_lists)

@@ -21,7 +21,7 @@ pub record IsChild (handle this function : ℕ) (soft : Soft) : Type 0 where
 abbrev pub FunctionIsOfChild : Type 0
 FunctionIsOfChild = (soft : Soft) (handle function : ℕ) → IsKept soft → child_function handle soft ≡ Some function → (this : ℕ) × IsChild handle this function soft
 
--- and so is what is found by the address of PCI I/O
+-- a function that is found by the address of PCI I/O is that of a child
 abbrev pub PciIoIsOfChild : Type 0
 PciIoIsOfChild = (soft : Soft) (this function : ℕ) → IsKept soft → pci_at this soft ≡ Some function → (handle : ℕ) × IsChild handle this function soft
 

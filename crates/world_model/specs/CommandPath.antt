@@ -25,11 +25,11 @@ path_set bytes soft = with_memory (mapped (path_segment bytes) soft.memory) soft
 abbrev pub path_cleared : Soft → Soft
 path_cleared soft = with_memory (unmapped soft.memory COMMAND_PATH) soft
 
--- whether a segment lies beside the place that is free for a path
+-- whether a segment lies outside the place that is kept free for a path
 abbrev pub is_beside_path : Segment → Bool
 is_beside_path segment = nat_le (end_of segment) COMMAND_PATH || nat_le TABLES_END segment.base
 
--- whether no path is mapped: all segments lie beside its place
+-- whether no path is mapped: all segments lie outside its place
 abbrev pub has_no_path : List Segment → Bool
 has_no_path segments = list_all is_beside_path segments
 
@@ -52,7 +52,7 @@ PathSettingKeeps = (soft : Soft) (bytes : List ℕ) → IsKept soft → has_no_p
 abbrev pub PathClearingKeeps : Type 0
 PathClearingKeeps = (soft : Soft) → IsKept soft → IsKept (path_cleared soft)
 
--- neither has to do with stacks
+-- neither setting nor clearing a path changes the stacks
 abbrev pub PathSettingKeepsStacks : Type 0
 PathSettingKeepsStacks = (soft : Soft) (bytes : List ℕ) → stacks (path_set bytes soft) ≡ stacks soft
 

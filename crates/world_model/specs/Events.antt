@@ -35,7 +35,7 @@ event_begun parent kind driver controller extra hard = record hard {
 abbrev pub with_result : ℕ → Outcome → Event → Event
 with_result serial outcome event = if nat_eq event.serial serial then record event { result = outcome } else event
 
--- the event of a serial number ends so
+-- the event with a serial number ends with this outcome
 abbrev pub event_ended : ℕ → Outcome → Hard → Hard
 event_ended serial outcome hard = record hard { events = map (with_result serial outcome) hard.events }
 

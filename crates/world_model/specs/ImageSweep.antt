@@ -1,4 +1,5 @@
--- An image and what belongs to it: whether it is in use, and how it goes in one sweep (UEFI 2.8, 7.4: UnloadImage).
+-- An image and what belongs to it: whether it is in use, and how it is removed in one sweep (UEFI 2.8, 7.4:
+-- UnloadImage).
 --
 -- The agents of an image are its handle and the handles whose driver binding it owns. It owns the interfaces that its code
 -- installed, and the thunks that enter it.
@@ -31,7 +32,8 @@ is_in_use image soft = has_use_of image (known_guid DriverBinding) soft.database
 
 -- ---- the sweep
 
--- The interfaces that an image owns go, and its loaded image interface. A handle without interfaces is gone.
+-- The interfaces that an image owns are removed, and so is its loaded image interface. A handle without interfaces is
+-- gone.
 abbrev pub database_without : (image : ℕ) → Database → Database
 database_without image db = without_owned image (known_guid LoadedImageProtocol) db
 

@@ -48,7 +48,7 @@ interface_removed handle guid soft = record soft {
   bus_children = children_left handle guid soft.bus_children;
 }
 
--- whether a handle is that of an image that is loaded, the firmware's own image apart
+-- whether a handle is that of an image that is loaded, other than the firmware's own image
 abbrev pub is_image : ℕ → List LoadedImage → Bool
 is_image handle images = list_any (λ (image : LoadedImage). nat_eq image.handle handle) images
 

@@ -113,10 +113,10 @@ are_apart (child ∷ children) = not (list_any (is_child child.handle) children)
 
 -- ---- the parts
 --
--- Each part speaks of the fields that it needs, so that a change that leaves them leaves it.
+-- Each part is about only the fields that it needs, so a change that leaves those fields leaves the part.
 
--- memory: no two segments meet, and each lies in the region of its kind; the firmware's tables are there
--- with their bytes; a level has a list of children only beside a stack
+-- memory: no two segments meet, and each lies in the region of its kind; the firmware's tables are there with
+-- their bytes; a level has a list of children only if it has a stack
 pub record IsMemoryKept (memory : List Segment) (next_image next_block : ℕ) : Type 0 where
   pub apart : lie_from 0 memory ≡ true
   pub placed : list_all (is_placed next_image next_block) memory ≡ true

@@ -56,7 +56,7 @@ pub record IsLegalAt (handles : List HandleNode) (one : InterfaceNode) : Type 0 
   pub apart : (agent controller attr : ℕ) → count_by (is_equal agent controller attr) one.records ≤ 1
   pub live : list_all (names_live handles) one.records ≡ true
 
--- each interface of each handle is
+-- each interface of each handle is legal
 abbrev pub IsLegal : List HandleNode → Type 0
 IsLegal handles = All (λ (one : HandleNode). All (IsLegalAt handles) one.interfaces) handles
 

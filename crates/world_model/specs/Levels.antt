@@ -1,5 +1,6 @@
 -- Which stacks may be there, and how many marks may be open, while something runs at a level; and what
--- holds between commands. A level counts by `left`, the levels that may still be entered after it.
+-- holds between commands. A level is given by `left`, the number of levels that may still be entered after
+-- it.
 use Rattle.std.specs.Prelude.{◌≡◌, ◌<◌, ◌≤◌, ℕ, ◌+◌, ◌-◌, ◌*◌, Bool, true, false, ◌&&◌, nat_le, List, [], ◌∷◌, length, Option}
 use Rattle.std.specs.List.{list_all}
 use Rattle.pci_model.specs.Devices.{BoardState}
@@ -47,7 +48,7 @@ MarkingLeavesFree = (left : ℕ) (soft : Soft) (marks : List Soft) → is_free l
 
 -- ---- marks
 
--- the most marks that are ever open: three for each level, and four beside them
+-- the most marks that are ever open: three for each level, and four more
 abbrev pub most_open : ℕ
 most_open = 3 * MOST_LEVELS + 4
 
@@ -56,11 +57,11 @@ most_open = 3 * MOST_LEVELS + 4
 unfoldable pub has_marks : (spare left : ℕ) → List Soft → Bool
 has_marks spare left marks = nat_le (length marks + spare + 3 * left) most_open
 
--- what has marks to spare can do with none
+-- what has marks to spare has enough without any to spare
 abbrev pub SparesAreEnough : Type 0
 SparesAreEnough = (left : ℕ) (marks : List Soft) → has_marks 2 left marks ≡ true → has_marks 0 left marks ≡ true
 
--- what has some to spare has fewer to spare
+-- what has some to spare also has any smaller number to spare
 abbrev pub FewerToSpare : Type 0
 FewerToSpare = (fewer spare left : ℕ) (marks : List Soft) → fewer ≤ spare → has_marks spare left marks ≡ true → has_marks fewer left marks ≡ true
 
@@ -88,7 +89,7 @@ pub record IsAtRest (w : WorldView) : Type 0 where
 abbrev pub OpeningIsAtRest : Type 0
 OpeningIsAtRest = (board : BoardState) (roms : List (Option (List ℕ))) → IsAtRest (opening board roms)
 
--- all levels are free then, and four marks are to spare
+-- all levels are free then, and there are four marks to spare
 abbrev pub RestIsFree : Type 0
 RestIsFree = (w : WorldView) → IsAtRest w → is_free MOST_LEVELS (stacks w.now.soft) w.marks ≡ true
 

@@ -1,6 +1,6 @@
 -- What each single change means for the nested view, in which each handle has its interfaces and each
--- interface its records: one equation for each, so that the database can be held beside the standard (UEFI
--- 2.8, 7.3: Protocol Handler Services).
+-- interface its records. There is one equation for each change, so that the database can be compared with
+-- the standard (UEFI 2.8, 7.3: Protocol Handler Services).
 use Rattle.std.specs.Prelude.{◌≡◌, ℕ, Bool, false, not, nat_eq, nat_lt, bytes_eq, List, [], ◌∷◌, ◌++◌, length, map, filter, Some, None, if◌then◌else◌}
 use Rattle.fw_types.specs.declared.attr.TheConstants.Attr.{ALL_BITS, BY_CHILD_CONTROLLER, WEAK_BITS}
 use Rattle.handle_db.specs.declared.handle_entry.Interface.{Interface}
@@ -33,7 +33,7 @@ everywhere change of of_guid records = change records
 abbrev pub without : (Rec → Bool) → List Rec → List Rec
 without test records = filter (λ (rec : Rec). not (test rec)) records
 
--- the nested view with the records of each interface changed so
+-- the nested view with the records of each interface changed in this way
 abbrev pub changed_records : RecordsChange → List HandleNode → List HandleNode
 changed_records change handles =
     map (λ (one : HandleNode). record one { interfaces = map (λ (i : InterfaceNode). record i { records = change one.handle i.guid i.records }) one.interfaces }) handles

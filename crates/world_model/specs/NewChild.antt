@@ -110,7 +110,7 @@ child_made controller function w = on_soft (child_added (path_below controller f
 -- ---- laws
 
 -- nothing refuses a child: there is room for each of its blocks, and each of its interfaces is accepted; its
--- handle, which is no child's, has PCI I/O of the firmware
+-- handle, which is not yet a child's, has PCI I/O of the firmware
 pub record IsChildPossible (path : List ℕ) (has_rom : Bool) (soft : Soft) : Type 0 where
   pub path_room : is_block_full (length path) soft ≡ false
   pub path_accepted : is_ok (install_answer None (known_guid DevicePath) soft) ≡ true
@@ -150,7 +150,7 @@ ChildHasFunction =
     (soft : Soft) (path : List ℕ) (has_rom : Bool) (function : ℕ) → IsKept soft → function < length soft.bus_lists
     → child_function soft.database.next (child_added path has_rom function soft) ≡ Some function
 
--- which levels have a stack stays as it was
+-- which levels have a stack does not change
 abbrev pub ChildKeepsStacks : Type 0
 ChildKeepsStacks =
     (soft : Soft) (path : List ℕ) (has_rom : Bool) (function : ℕ) → stacks (child_added path has_rom function soft) ≡ stacks soft

@@ -21,19 +21,19 @@ record_entered handle guid agent controller attr soft = with_records (added hand
 
 -- ---- leaving
 
--- an agent's records for a controller go from an interface
+-- an agent's records for a controller are removed from an interface
 abbrev pub records_left : ℕ → List ℕ → (agent controller : ℕ) → Soft → Soft
 records_left handle guid agent controller soft = with_records (cut handle guid (is_meant (Some agent) (Some controller) ALL_BITS) soft.records) soft
 
--- an agent's records go from all interfaces of a handle
+-- an agent's records are removed from all interfaces of a handle
 abbrev pub all_left : ℕ → (agent : ℕ) → Soft → Soft
 all_left handle agent soft = with_records (cut_on handle (is_meant (Some agent) None ALL_BITS) soft.records) soft
 
--- an agent's records for a child go from all interfaces of a handle
+-- an agent's records for a child are removed from all interfaces of a handle
 abbrev pub child_left : ℕ → (agent child : ℕ) → Soft → Soft
 child_left handle agent child soft = with_records (cut_on handle (is_meant (Some agent) (Some child) BY_CHILD_CONTROLLER) soft.records) soft
 
--- the records that keep nobody out go from an interface
+-- the records that keep nobody out are removed from an interface
 abbrev pub weak_dropped : ℕ → List ℕ → Soft → Soft
 weak_dropped handle guid soft = with_records (cut handle guid (is_meant None None WEAK_BITS) soft.records) soft
 
@@ -41,7 +41,7 @@ weak_dropped handle guid soft = with_records (cut handle guid (is_meant None Non
 abbrev pub removed_count : Soft → Soft → ℕ
 removed_count before after = length before.records.entries - length after.records.entries
 
--- ---- interfaces that go
+-- ---- interfaces that are removed
 
 -- without the records that name a handle, unless it is live
 abbrev pub unless_live : ℕ → Database → RecordTable → RecordTable

@@ -50,7 +50,7 @@ stack_segment level slots = record { base = stack_base level; bytes = stack_byte
 abbrev pub list_segment : ℕ → List ℕ → Segment
 list_segment level handles = record { base = list_base level; bytes = list_bytes handles; kind = kind.Table }
 
--- the registers as a call begins: R0 is at the frame, and all else is 0
+-- the registers as a call begins: R0 is at the frame, and everything else is 0
 abbrev pub frame : ℕ → Cpu
 frame level = record {
   r = (stack_base level + STACK_SIZE - frame_size) ∷ 0 ∷ 0 ∷ 0 ∷ 0 ∷ 0 ∷ 0 ∷ 0 ∷ [];

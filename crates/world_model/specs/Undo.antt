@@ -20,8 +20,8 @@ use Rattle.world_model.specs.Stacks.{has_stack, list_base, stack_base}
 
 -- ---- one change
 
--- The bytes of before are put where they were. If no segment that drivers may write has their range, as after a stack
--- went, nothing changes.
+-- The earlier bytes are put back where they were. If no segment that drivers may write has their range, as after a
+-- stack was popped, nothing changes.
 abbrev pub put_if_there : (at : ℕ) → (before : List ℕ) → List Segment → List Segment
 put_if_there at before segments = if is_writable_range segments at (length before) then put_bytes segments at before else segments
 
@@ -34,12 +34,12 @@ abbrev pub with_thunk : Thunk → List Thunk → List Thunk
 with_thunk new [] = new ∷ []
 with_thunk new (thunk ∷ thunks) = if nat_lt thunk.number new.number then thunk ∷ with_thunk new thunks else new ∷ thunk ∷ thunks
 
--- thunks that went, each in its place again
+-- thunks that were removed, each in its place again
 abbrev pub with_thunks : (gone : List Thunk) → List Thunk → List Thunk
 with_thunks [] thunks = thunks
 with_thunks (new ∷ gone) thunks = with_thunks gone (with_thunk new thunks)
 
--- a child of the bus that went, in its place again
+-- a child of the bus that was removed, in its place again
 abbrev pub with_child : Option (ℕ × BusChild) → List BusChild → List BusChild
 with_child None children = children
 with_child (Some gone) children = insert children gone.0 gone.1

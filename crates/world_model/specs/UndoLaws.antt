@@ -124,15 +124,15 @@ InstallIsNoted =
     (soft : Soft) (given : Option ℕ) (new : Interface) → IsKept soft → is_ok (install_answer given new.guid soft) ≡ true
     → IsNoted (Install (unwrap_or given soft.database.next) new.guid (not (is_some given))) soft (interface_added given new soft)
 
--- the child of the bus that goes with an interface of a protocol, and its place
+-- the child of the bus that is removed with an interface of a protocol, and its place
 abbrev pub child_gone : (handle : ℕ) → (guid : List ℕ) → List BusChild → Option (ℕ × BusChild)
 child_gone handle guid children =
     if bytes_eq guid (known_guid PciIo)
     then option_map (λ (child : BusChild). (position_or_len (is_child handle) children, child)) (find (is_child handle) children)
     else None
 
--- the open records that went, put back into those that a change left, are those that were there before it; and they fit
--- those that it left
+-- if the open records that were removed are put back into those that a change left, the result is those that were there
+-- before it; and they fit those that it left
 pub record PutsBack (gone : List Gone) (before after : Soft) : Type 0 where
   pub back : put_back gone after.records ≡ before.records
   pub fit : AreFitting gone after.records.entries
@@ -191,19 +191,19 @@ BusListIsNoted = (soft : Soft) (function : ℕ) (images : List ℕ) → IsNoted 
 
 -- ---- what a mark keeps
 
--- a change that was noted is taken back the same without the stacks of later levels, and can be
+-- a change that was noted can be taken back without the stacks of later levels, with the same result
 abbrev pub NotedBesideStacks : Type 0
 NotedBesideStacks =
     (change : Change) (before after : Soft) (levels : StackLevels) → IsKept before → IsKept after → IsNoted change before after
     → (taken_back change (without_stacks (later_levels levels) after) ≡ without_stacks (later_levels levels) before) × CanTakeBack change (without_stacks (later_levels levels) after)
 
--- so is one that can be taken back
+-- taking back a change that maps and unmaps nothing below the images gives the same without the stacks of later levels
 abbrev pub TakenBesideStacks : Type 0
 TakenBesideStacks =
     (change : Change) (soft : Soft) (levels : StackLevels) → IsKept soft → list_all (nat_le FIRST_IMAGE) (addresses_in change) ≡ true
     → taken_back change (without_stacks (later_levels levels) soft) ≡ without_stacks (later_levels levels) (taken_back change soft)
 
--- the stack of a later level comes and goes, and leaves what is without it
+-- pushing or popping the stack of a later level changes nothing once those stacks are left out
 abbrev pub PushedIsLeftOut : Type 0
 PushedIsLeftOut =
     (soft : Soft) (levels : StackLevels) (level : ℕ) (slots handles : List ℕ) → 0 < level → level ≤ MOST_LEVELS → had_stack levels level ≡ false
@@ -220,7 +220,7 @@ NoneIsLeftOut =
     (soft : Soft) (levels : StackLevels) → IsKept soft → ((level : ℕ) → 0 < level → level ≤ MOST_LEVELS → had_stack levels level ≡ false → has_stack level soft.memory ≡ false)
     → without_stacks (later_levels levels) soft ≡ soft
 
--- a stack that is left is there
+-- a stack that is not left out was there before
 abbrev pub LeftStackIsThere : Type 0
 LeftStackIsThere =
     (soft : Soft) (levels : StackLevels) (level : ℕ) → has_stack level soft.memory ≡ false → has_stack level (without_stacks (later_levels levels) soft).memory ≡ false

@@ -41,7 +41,7 @@ pub record State : Type 0 where
   pub soft : Soft
   pub hard : Hard
 
--- the world beside the soft parts that its open marks keep, the newest mark's first
+-- the world: the state now, and the soft parts that its open marks keep, the newest mark's first
 pub record WorldView : Type 0 where
   pub now : State
   pub marks : List Soft

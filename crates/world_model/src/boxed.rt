@@ -4,7 +4,8 @@ use fw_types::OutOfMemory;
 use std::alloc::Global;
 use std::marker::Model;
 
-/// A value in memory of its own, so that what has it stays small. A contract sees the value.
+/// A value in memory of its own, so that whatever contains it stays small. A contract sees the
+/// value.
 #[derive(Drop)]
 pub struct Boxed<T> {
     inside: Box<T>,

@@ -7,7 +7,7 @@ use guest_memory::Segment;
 use handle_db::Removed;
 use open_records::Gone;
 
-/// An interface that was uninstalled, with what went with it.
+/// An interface that was uninstalled, with what was removed with it.
 #[derive(Drop)]
 pub struct Uninstalled {
     /// Its handle.
@@ -16,9 +16,9 @@ pub struct Uninstalled {
     pub guid: Guid,
     /// What it was.
     pub removed: Removed,
-    /// The open records that went with it.
+    /// The open records that were removed with it.
     pub gone: Rows<Gone>,
-    /// The child of the bus that went with it, and its place among the others.
+    /// The child of the bus that was removed with it, and its place among the others.
     pub child: Option<(usize, BusChild)>,
 }
 
@@ -35,19 +35,19 @@ pub struct DroppedImage {
     pub block: Segment,
     /// Its loaded image interface.
     pub removed: Removed,
-    /// The open records that went with it.
+    /// The open records that were removed with it.
     pub gone: Rows<Gone>,
     /// The thunks that entered it.
     pub thunks: Rows<Thunk>,
 }
 
-/// A change of the soft part that was made, with what it takes to take it back. The two that take most are
-/// boxed, since a log keeps as much for each change as for the largest.
+/// A change of the soft part that was made, with what is needed to take it back. The two that need
+/// most are boxed, since a log uses as much memory for each change as for the largest.
 #[derive(Drop)]
 pub enum Change {
     /// The task priority level was set.
     SetTpl {
-        /// The level of before.
+        /// The level before.
         before: u8,
     },
     /// A number was written.
@@ -56,14 +56,14 @@ pub enum Change {
         at: u64,
         /// How many bytes it has.
         n: u8,
-        /// The bytes of before, and zeros after them.
+        /// The bytes that were there before, and zeros after them.
         before: [u8; 8],
     },
     /// Bytes were put in place of others.
     Put {
         /// The address of the first.
         at: u64,
-        /// The bytes of before.
+        /// The bytes that were there before.
         before: Rows<u8>,
     },
     /// A block was made.
@@ -87,7 +87,7 @@ pub enum Change {
     },
     /// An interface was uninstalled.
     Uninstall {
-        /// What went.
+        /// What was removed.
         went: Boxed<Uninstalled>,
     },
     /// An open was entered.
@@ -107,12 +107,12 @@ pub enum Change {
     },
     /// Open records were removed.
     Leave {
-        /// Those that went.
+        /// Those that were removed.
         gone: Rows<Gone>,
     },
     /// An image was dropped.
     DropImage {
-        /// What went.
+        /// What was removed.
         dropped: Boxed<DroppedImage>,
     },
     /// An image was added.
@@ -131,7 +131,7 @@ pub enum Change {
     SetBusList {
         /// The number of the function.
         function: u32,
-        /// The list of before.
+        /// The list before.
         before: Option<Rows<Handle>>,
     },
 }

@@ -22,8 +22,8 @@ ghost use Rattle.world_model.specs.BlockBytes.{EmptiedBesideStacks, EmptyFreeIsN
 ghost use Rattle.world_model.specs.UndoLaws.{AddImageIsNoted, AllotIsNoted, BusListIsNoted, ChildIsNoted, DropImageIsNoted, EnterIsNoted, FreeIsNoted, InstallIsNoted, LeaveIsNoted, LeftStackIsThere, NoneIsLeftOut, NotedBesideStacks, PoppedIsLeftOut, PushedIsLeftOut, PutIsNoted, TakenBesideStacks, ThunkIsNoted, TplIsNoted, UndoingLeavesStacks, UninstallIsNoted, WriteIsNoted};
 ghost use Rattle.world_model.specs.Keeping.{AddingKeeps, AllLeavingKeeps, AllottingKeeps, BlockFits, ChildLeavingKeeps, DroppingKeeps, EnteringKeeps, FreeingKeeps, ImageFits, InstallingKeeps, LeavingKeeps, ListFits, MakingKeeps, OpeningIsKept, PoppingKeeps, PushingKeeps, PuttingKeeps, StackFits, ImageBlockFits, SweepingKeeps, TplKeeps, UninstallingKeeps, WeakDroppingKeeps, WritingKeeps, BusListKeeps, NotingKeeps};
 
-/// The tables, lists of children and blocks of the firmware keep their bytes while they are mapped:
-/// they change by being mapped and unmapped alone.
+/// The tables, lists of children and blocks of the firmware keep their bytes while they are mapped.
+/// They change only by being mapped and unmapped.
 pub fn fixed_segments_stay()
     ensures writing { WritingKeepsFixed }
     ensures putting { PuttingKeepsFixed }
@@ -86,9 +86,9 @@ pub fn segments_fit()
     ensures list { ListFits }
 {}
 
-/// The device path of a `connect` command is mapped where nothing else is. To set and to clear it
-/// leaves what holds of every soft part, and all stacks. After it is cleared no path is there, as at
-/// first.
+/// The device path of a `connect` command is mapped at a place that nothing else uses. Setting and
+/// clearing it leaves what holds of every soft part, and all stacks. After it is cleared no path is
+/// there, as at first.
 pub fn command_paths_fit()
     ensures fits { PathFits }
     ensures setting { PathSettingKeeps }
@@ -157,8 +157,8 @@ pub fn marks_are_spent()
 {}
 
 /// In the opening state each root bridge of the board has a handle with its device path and then
-/// with root bridge I/O, in the order of the board's lines. Beside these there are the handles of
-/// the firmware and of the bus driver. No limit keeps one of at most 16 root bridges out.
+/// with root bridge I/O, in the order of the board's lines. The only other handles are those of the
+/// firmware and of the bus driver. No limit keeps one of at most 16 root bridges out.
 pub fn roots_are_there()
     ensures fit { RootsFit }
     ensures interfaces { RootsAreThere }
@@ -225,8 +225,8 @@ pub fn changes_are_taken_back()
     ensures bus_list { BusListIsNoted }
 {}
 
-/// What a mark keeps stays as changes are made and noted, and as the stacks of later levels come and
-/// go. To take changes back leaves the stacks.
+/// What a mark keeps stays as changes are made and noted, and as the stacks of later levels are
+/// pushed and popped. Taking changes back leaves the stacks.
 pub fn marks_keep()
     ensures noted { NotedBesideStacks }
     ensures taken { TakenBesideStacks }
@@ -237,8 +237,8 @@ pub fn marks_keep()
     ensures undone { UndoingLeavesStacks }
 {}
 
-/// A mark that is older than a large block of the pool does not need the block's bytes: to take back
-/// all changes since the mark takes the block away too. So a free of the block may be noted without
+/// A mark that is older than a large block of the pool does not need the block's bytes: taking back
+/// all changes since the mark removes the block too. So a free of the block may be noted without
 /// them, and an undo leaves the same.
 pub fn new_blocks_need_no_bytes()
     ensures keeps { EmptyingKeeps }

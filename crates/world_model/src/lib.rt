@@ -2,7 +2,8 @@
 //!
 //! `specs/World.antt` has the world: a soft part, which an undo puts back, and a hard part, which
 //! no undo touches. The other files have each single change as a word. `specs/Kept.antt` says what
-//! holds of every soft part. The only code is that of the plain types that definitions and code share.
+//! holds of every soft part. The only code is that of the plain types that definitions and code
+//! share.
 #![tactic(auto)]
 
 mod boxed;

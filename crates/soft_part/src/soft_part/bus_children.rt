@@ -58,7 +58,7 @@ impl SoftPart {
     }
 
     /// Makes a function that of a handle with PCI I/O of the firmware, which is no child yet. A
-    /// number that is no function's of the board changes nothing.
+    /// number that is not that of a function of the board changes nothing.
     ///
     /// # Errors
     ///

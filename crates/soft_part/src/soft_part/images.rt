@@ -229,7 +229,7 @@ impl SoftPart {
         Ok(thunk_address(number))
     }
 
-    /// Where the live thunk of an address enters.
+    /// The entry of the live thunk of an address.
     pub fn thunk_at(&self, at: u64) -> Option<u64>
         ensures { result ≡ thunk_value at self.now }
     {

@@ -71,8 +71,8 @@ impl SoftPart {
 
     // ---- open records
 
-    /// Enters an open of an interface that is there, by a live agent, for none or for a live
-    /// controller.
+    /// Enters an open of an interface that is there, by a live agent, for no controller or for a live
+    /// one.
     ///
     /// # Errors
     ///
@@ -96,7 +96,7 @@ impl SoftPart {
             record_entered handle guid agent controller attr self.old) }
         ensures err { OnErr result (self.new ≡ self.old) }
     {
-        // The bits of an attribute are legal; its contract says so of `bits` alone.
+        // The bits of an attribute are legal; its contract says so only of `bits`.
         let _ = attr.bits();
         self.records.add(handle, guid, agent, controller, attr)
     }
@@ -116,7 +116,7 @@ impl SoftPart {
         self.records.count(handle, guid, agent, controller, attr)
     }
 
-    /// Takes out the records that are chosen, and answers what went, which an undo puts back.
+    /// Takes out the records that are chosen, and answers what was removed, which an undo puts back.
     ///
     /// # Errors
     ///

@@ -85,7 +85,7 @@ impl SoftPart {
         }
     }
 
-    /// Puts bytes of before in their place, if it is there and can be written.
+    /// Puts the earlier bytes back in their place, if it is there and can be written.
     fn put_if_there(&mut self, at: u64, before: &[u8])
         ensures { self.new ≡ with_memory (put_if_there at before.now self.old.memory) self.old }
     {
@@ -116,7 +116,7 @@ impl SoftPart {
         Ok(())
     }
 
-    /// Takes back that an interface was installed, the last on its handle.
+    /// Takes back that an interface was installed, the last one on its handle.
     fn uninstall_last(&mut self, handle: Handle, guid: Guid, made: bool)
         requires kept { IsKept (taken_back (Change.Install handle guid made) self.old) }
         requires last { IsInstalledLast handle guid made self.old.database }
@@ -148,7 +148,7 @@ impl SoftPart {
         Ok(())
     }
 
-    /// Takes an open back: the record counts as many as before.
+    /// Takes an open back: the record counts as many opens as before.
     fn set_count_back(
         &mut self,
         handle: Handle,
@@ -167,7 +167,7 @@ impl SoftPart {
             .set_count(handle, guid, agent, controller, attr, before);
     }
 
-    /// Puts records back that went.
+    /// Puts back records that were removed.
     ///
     /// # Errors
     ///
@@ -250,7 +250,7 @@ impl SoftPart {
         self.plain.bus_children.truncate(count);
     }
 
-    /// Puts the bus list of before in its place.
+    /// Puts the earlier bus list back in its place.
     fn put_list_back(&mut self, function: u32, before: BusList)
         requires { IsKept (taken_back (Change.SetBusList function before) self.old) }
         ensures { self.new ≡ taken_back (Change.SetBusList function before) self.old }

@@ -3,7 +3,7 @@ use Rattle.handle_db.specs.Database.{has_any}
 use Rattle.handle_db.proofs.Changes.{empty_is, gone_at, stays_at}
 use Rattle.handle_db.proofs.changing.drop_at.Goals as goal
 
--- the entry without interfaces goes
+-- the entry without interfaces is removed
 pub returns-then-is_empty : goal.returns-then-is_empty
 returns-then-is_empty c =
     let entry = c.index.result.now in

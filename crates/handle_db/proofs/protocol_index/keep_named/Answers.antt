@@ -5,7 +5,7 @@ use Rattle.handle_db.specs.ProtocolIndex.{Naming}
 use Rattle.handle_db.proofs.IndexLemmas.{kept_contains}
 use Rattle.handle_db.proofs.protocol_index.keep_named.Goals as goal
 
--- those stay of which the closure says so
+-- those for which the closure says so stay
 pub returns : goal.returns
 returns c =
     let kept : c.retain.new.self.keys ≡ filter (λ (one : Naming). has_in one.1 one.0 c.args.entries.now) c.args.index.now.keys =

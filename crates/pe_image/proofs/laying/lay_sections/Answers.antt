@@ -7,7 +7,7 @@ use Rattle.pe_image.proofs.SectionPlaceLemmas.{laid_out}
 use Rattle.pe_image.proofs.ImageByteLemmas.{byte_over, byte_over-put, byte_over-start, plain_image-by_place, length-headers_alone}
 use Rattle.pe_image.proofs.laying.lay_sections.Goals as goal
 
--- all sections over the headers alone
+-- all sections over the headers followed by zeros
 pub loop-index-init : goal.loop-index-init
 loop-index-init c =
     let bytes = c.args.bytes.now in

@@ -6,7 +6,7 @@ use Rattle.record_table.proofs.KeyLemmas.{exact_interface}
 use Rattle.record_table.proofs.NamingLemmas.{kept_there}
 use Rattle.record_table.proofs.names.drop_empty.Goals as goal
 
--- those stay of which the closure says so
+-- those for which the closure says so stay
 pub returns : goal.returns
 returns c =
     let kept : c.retain.new.self.keys ≡ filter (λ (q : Interface). nat_lt 0 (length (records_at c.args.interfaces.now q))) c.args.returned.now.keys =

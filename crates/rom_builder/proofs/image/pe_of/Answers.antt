@@ -4,7 +4,7 @@ use Rattle.rom_builder.proofs.AcceptanceLemmas.{made_accepted}
 use Rattle.rom_builder.proofs.SizeLemmas.{too_long, buildable, few_bytes}
 use Rattle.rom_builder.proofs.image.pe_of.Goals as goal
 
--- the code alone is too long
+-- even the code without relocations is too long
 pub returns-then-as_slice-clause-answer : goal.returns-then-as_slice-clause-answer
 returns-then-as_slice-clause-answer c =
     let size = ap length c.as_slice.ensures in

@@ -5,7 +5,7 @@ use Rattle.parted_records.specs.Parting.{Follows, IsCopy, is_lasting, lasting}
 use Rattle.parted_records.proofs.PartingLemmas.{copy_follows, filters_swap, fit_of}
 use Rattle.parted_records.proofs.parted.PartedRecords.take.Goals as goal
 
--- the copy without the records that go, where all are without them
+-- the copy without the records that are removed, if all records are without them
 copy_left : (stays : Rec → Bool) (old new : Option (List Rec)) (before after : List Rec) → IsCopy old before → Follows (λ records. filter stays records) old new → after ≡ filter stays before → IsCopy new after
 copy_left stays old new before after is follows left =
     copy_follows (λ (records : List Rec). filter stays records) old new before after is follows (filters_swap stays is_lasting before ∙ sym (ap lasting left))

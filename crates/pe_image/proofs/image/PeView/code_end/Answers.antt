@@ -10,7 +10,7 @@ use Rattle.pe_image.proofs.image.PeView.code_end.Goals as goal
 found : (c : goal.After-end) → find (has_address (entry_of c.self.inside.bytes.now)) (sections_of c.self.inside.bytes.now) ≡ Some c.in-Some.section
 found c = rw c.entry_point.ensures at (sym c.section_with.ensures ∙ c.in-Some.is)
 
--- it ends in the image, behind the entry point
+-- it ends in the image, after the entry point
 ends : (c : goal.After-end) → EndsBehind c.self.inside.bytes.now (entry_of c.self.inside.bytes.now) c.in-Some.section
 ends c =
     let bytes = c.self.inside.bytes.now in

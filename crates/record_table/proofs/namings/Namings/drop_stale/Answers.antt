@@ -8,7 +8,7 @@ use Rattle.record_table.proofs.KeyLemmas.{exact_naming}
 use Rattle.record_table.proofs.NamingLemmas.{kept_there}
 use Rattle.record_table.proofs.namings.Namings.drop_stale.Goals as goal
 
--- those stay of which the closure says so
+-- those for which the closure says so stay
 pub returns : goal.returns
 returns c =
     let kept : c.retain.new.self.keys ≡ filter (λ (q : Naming). list_any (is_named q.0) (records_at c.args.interfaces.now q.1)) c.self.inside.named.keys =

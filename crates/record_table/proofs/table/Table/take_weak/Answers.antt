@@ -7,7 +7,7 @@ use Rattle.record_table.proofs.TableLemmas.{whole_cut}
 use Rattle.record_table.proofs.UndoLemmas.{goes_weak, left_weak, weak_back, whole_weak}
 use Rattle.record_table.proofs.table.Table.take_weak.Goals as goal
 
--- the records that go by a test
+-- the records that are removed, by a test
 by_test : (here : Interface) (go : Bool) (old new : Interfaces) → Changes here (if go then lasting (records_at old here) else records_at old here) old new → Changes here (filter (λ (rec : Rec). not (goes_weak go rec)) (records_at old here)) old new
 by_test here go old new changes = let Change : List Rec → Type 0 = λ records. Changes here records old new in subst Change (left_weak go (records_at old here)) changes
 
