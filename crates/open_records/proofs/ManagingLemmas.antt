@@ -3,6 +3,7 @@ use Rattle.std.proofs.Common.{◌≡◌, ◌<◌, ◌≤◌, ℕ, suc, Bool, tru
 use Rattle.std.specs.Int.RustNames.{bit_and}
 use Rattle.std.specs.List.{list_any}
 use Rattle.std.specs.Option.{option_to_list}
+use Rattle.std.specs.Prelude.{is_some}
 use Rattle.std.proofs.lemmas.Bool.{cases_Bool, eqb-true, eq-eqb, not-false}
 use Rattle.std.proofs.lemmas.Nat.{and_assoc}
 use Rattle.fw_types.specs.declared.attr.TheConstants.Attr.{BY_CHILD_CONTROLLER, BY_DRIVER, HOLDING_BITS}
@@ -72,46 +73,40 @@ managing_is records one = ap (map (λ (rec : Rec). rec.agent)) (by_filter record
           rw (weak, weak_agent rec weak) (by_filter records rest)
     ]
 
-found_none : (records : List Rec) → length (filter is_strong records) ≡ 0 → find is_managing records ≡ None
-found_none [] none = refl
-found_none (rec ∷ records) none = elim (cases_Bool (is_strong rec)) [
-  | inl strong ↦ let more : suc (length (filter is_strong records)) ≡ 0 = rw strong at none in absurd (omega arith)
-  | inr weak ↦ let rest : length (filter is_strong records) ≡ 0 = rw weak at none in rw (weak_agent rec weak) (found_none records rest)
+found-any : (test : Rec → Bool) (records : List Rec) → is_some (find test records) ≡ list_any test records
+found-any test [] = refl
+found-any test (rec ∷ records) = elim (cases_Bool (test rec)) [
+  | inl passes ↦ rw passes refl
+  | inr fails ↦ rw fails (found-any test records)
 ]
 
--- and only that one may be found
-pub manager_is : (records : List Rec) → length (filter is_strong records) ≤ 1 → find is_managing (option_to_list (find is_strong records)) ≡ find is_managing records
-manager_is [] one = refl
-manager_is (rec ∷ records) one = elim (cases_Bool (is_strong rec)) [
-  | inl strong ↦
-      let most : suc (length (filter is_strong records)) ≤ 1 = rw strong at one in
-      let none = found_none records (omega arith) in
-      rw (strong, none) refl
-  | inr weak ↦
-      let rest : length (filter is_strong records) ≤ 1 = rw weak at one in
-      rw (weak, weak_agent rec weak) (manager_is records rest)
-]
-
--- what only records with BY_DRIVER or EXCLUSIVE can be
+-- if a test fails on all records without BY_DRIVER and EXCLUSIVE, only that one may pass it
 module _ (test : Rec → Bool) (weak_fails : (rec : Rec) → is_strong rec ≡ false → test rec ≡ false) where
-  none_is : (records : List Rec) → length (filter is_strong records) ≡ 0 → list_any test records ≡ false
-  none_is [] none = refl
-  none_is (rec ∷ records) none = elim (cases_Bool (is_strong rec)) [
+  found_none : (records : List Rec) → length (filter is_strong records) ≡ 0 → find test records ≡ None
+  found_none [] none = refl
+  found_none (rec ∷ records) none = elim (cases_Bool (is_strong rec)) [
     | inl strong ↦ let more : suc (length (filter is_strong records)) ≡ 0 = rw strong at none in absurd (omega arith)
-    | inr weak ↦ let rest : length (filter is_strong records) ≡ 0 = rw weak at none in rw (weak_fails rec weak) (none_is records rest)
+    | inr weak ↦ let rest : length (filter is_strong records) ≡ 0 = rw weak at none in rw (weak_fails rec weak) (found_none records rest)
   ]
 
-  pub one_is : (records : List Rec) → length (filter is_strong records) ≤ 1 → list_any test (option_to_list (find is_strong records)) ≡ list_any test records
-  one_is [] one = refl
-  one_is (rec ∷ records) one = elim (cases_Bool (is_strong rec)) [
+  pub found_is : (records : List Rec) → length (filter is_strong records) ≤ 1 → find test (option_to_list (find is_strong records)) ≡ find test records
+  found_is [] one = refl
+  found_is (rec ∷ records) one = elim (cases_Bool (is_strong rec)) [
     | inl strong ↦
         let most : suc (length (filter is_strong records)) ≤ 1 = rw strong at one in
-        let none = none_is records (omega arith) in
+        let none = found_none records (omega arith) in
         rw (strong, none) refl
     | inr weak ↦
         let rest : length (filter is_strong records) ≤ 1 = rw weak at one in
-        rw (weak, weak_fails rec weak) (one_is records rest)
+        rw (weak, weak_fails rec weak) (found_is records rest)
   ]
+
+  pub any_is : (records : List Rec) → length (filter is_strong records) ≤ 1 → list_any test (option_to_list (find is_strong records)) ≡ list_any test records
+  any_is records one =
+      sym (found-any test (option_to_list (find is_strong records))) ∙ ap is_some (found_is records one) ∙ found-any test records
+
+pub manager_is : (records : List Rec) → length (filter is_strong records) ≤ 1 → find is_managing (option_to_list (find is_strong records)) ≡ find is_managing records
+manager_is = found_is is_managing weak_agent
 
 pub weak_meant : (agent controller : Option ℕ) (rec : Rec) → is_strong rec ≡ false → is_meant agent controller BY_DRIVER rec ≡ false
 weak_meant agent controller rec weak = rw (weak_agent rec weak) (by_bool (fits agent rec.agent) (fits controller rec.controller))

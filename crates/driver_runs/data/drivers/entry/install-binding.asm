@@ -1,4 +1,4 @@
-; The entry of a driver: it makes thunks of the three functions of its driver binding, which stands
+; The entry of a driver: it makes thunks of the three functions of its driver binding, which are
 ; in data/binding, and installs the binding on the handle of its image. R4 is then the boot services,
 ; and R1 is 0.
 ; 22 instructions and InstallProtocolInterface: 30 units.
