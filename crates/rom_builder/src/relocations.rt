@@ -1,6 +1,6 @@
 //! The relocation directory: a block for each page that has a relocation (PE/COFF: Base Relocation
 //! Block, Base Relocation Types).
-ghost use Rattle.std.specs.Prelude.{◌≡◌, ◌≤◌, ◌<◌, ◌+◌, ◌/◌, ◌^◌, IfOk, OnOk, length, map, nat_eq};
+ghost use Rattle.std.specs.Prelude.{◌≡◌, ◌≤◌, ◌<◌, ◌+◌, ◌/◌, ◌%◌, ◌^◌, IfOk, OnOk, length, map, nat_eq};
 ghost use Rattle.std.specs.List.{take_while};
 ghost use Rattle.rom_builder.specs.MadeImage.{page_block, block_with, page_blocks, entry_bytes, padded_entries, places_of, relocation_blocks};
 ghost use Rattle.rom_builder.specs.SortedOnce.{RiseFrom};
@@ -108,10 +108,16 @@ fn entry_bytes(alloc: Global, places: &[usize]) -> Result<Vec<u8>, OutOfMemory>
 {
     let mut entries = Vec::new(alloc);
     for place in places {
-        let offset = (*place % PAGE) as u16;
-        entries.extend_from_slice(&(DIR_64 + offset).to_le_bytes())?;
+        entries.extend_from_slice(&entry_of(*place).to_le_bytes())?;
     }
     Ok(entries)
+}
+
+/// The entry for a place.
+fn entry_of(place: usize) -> u16
+    ensures { result ≡ 0xA000 + place % 4096 }
+{
+    DIR_64 + (place % PAGE) as u16
 }
 
 /// Adds an entry without meaning, if the number of entries is odd.

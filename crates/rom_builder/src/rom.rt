@@ -62,12 +62,25 @@ fn parts_of(
 {
     let mut parts = Vec::with_capacity(alloc, files.len())?;
     for file in files {
-        parts.push(RomPart {
-            vendor,
-            device,
-            class,
-            body: Rows::of(Vec::from_slice(alloc, file)?),
-        })?;
+        parts.push(part_of(alloc, vendor, device, class, file)?)?;
     }
     Ok(parts)
+}
+
+/// A file as a part, copied.
+fn part_of(
+    alloc: Global,
+    vendor: u16,
+    device: u16,
+    class: u32,
+    file: &Vec<u8>,
+) -> Result<RomPart, OutOfMemory>
+    ensures { IfOk result (λ part. part ≡ part_of vendor device class file.now) }
+{
+    Ok(RomPart {
+        vendor,
+        device,
+        class,
+        body: Rows::of(Vec::from_slice(alloc, file)?),
+    })
 }
