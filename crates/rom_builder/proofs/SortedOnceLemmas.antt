@@ -143,10 +143,14 @@ has-dedup : (k : ℕ) (ns : List ℕ) → has k (dedup nat_eq ns) ≡ has k ns
 has-dedup k [] = refl
 has-dedup k (n ∷ ns) = has-dedup_from k n ns
 
+-- sorted numbers, each once, rise
+pub rise-dedup : (sorted : List ℕ) → IsSorted nat_cmp sorted → RiseFrom 0 (dedup nat_eq sorted)
+rise-dedup sorted order = rise-by_index 0 (dedup nat_eq sorted) (λ some. omega arith) (IsStrictlyIncreasing-dedup sorted order)
+
 -- the numbers given, sorted and then each once
 pub dedup-sorted : (ns sorted : List ℕ) → IsPermutation ns sorted → IsSorted nat_cmp sorted → dedup nat_eq sorted ≡ sorted_once ns
 dedup-sorted ns sorted moved order =
     same_numbers 0 0 (dedup nat_eq sorted) (sorted_once ns)
-    (rise-by_index 0 (dedup nat_eq sorted) (λ some. omega arith) (IsStrictlyIncreasing-dedup sorted order))
+    (rise-dedup sorted order)
     (rise-sorted_once ns)
     (λ k. has-dedup k sorted ∙ sym (list_any-IsPermutation (nat_eq k) ns sorted moved) ∙ sym (has-sorted_once k ns))
