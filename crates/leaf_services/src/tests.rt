@@ -89,6 +89,26 @@ fn overlapping_copies(rt: HostRuntime) -> Result<(), Fail> {
     from_start(&rt, &steps)
 }
 
+/// A copy of 3 MiB, from one block to the next.
+#[test]
+fn long_copies(rt: HostRuntime) -> Result<(), Fail> {
+    let steps = [
+        Step::Allocates(3_145_728, DONE, 0x1_0000_0060, 49_153),
+        Step::Allocates(3_145_728, DONE, 0x1_0030_0060, 49_153),
+        Step::Writes(0x1_0000_0060, 0x0807_0605_0403_0201),
+        Step::Writes(0x1_0030_0058, 0x1817_1615_1413_1211),
+        Step::Spends(
+            Service::CopyMem,
+            &[0x1_0030_0060, 0x1_0000_0060, 3_145_728],
+            DONE,
+            393_217,
+        ),
+        Step::Words(0x1_0030_0060, &[0x0807_0605_0403_0201, 0]),
+        Step::Words(0x1_0060_0058, &[0x1817_1615_1413_1211]),
+    ];
+    from_units(&rt, 3_000_000, &steps)
+}
+
 /// Copies from a table and to one, and of no bytes.
 #[test]
 fn ends_of_copies(rt: HostRuntime) -> Result<(), Fail> {
