@@ -14,7 +14,7 @@ use Rattle.pe_image.specs.Relocations.{has_directory, entries_of, Block, block_o
 use Rattle.pe_image.specs.LaidImage.{headers_alone, byte_at, plain_image, delta_of, relocated, laid}
 use Rattle.pe_image.proofs.ImageByteLemmas.{plain_image-by_place}
 use Rattle.pe_image.proofs.BlockLemmas.{entries_of_directory-behind, entries_of_directory-none}
-use Rattle.rom_builder.specs.MadeImage.{page_block, page_blocks, entry_bytes, padded_entries, page_of, pages_of, places_in, places_of, relocation_blocks, aligned, padded_bytes, header_bytes, made_image, fault_of}
+use Rattle.rom_builder.specs.MadeImage.{page_block, page_blocks, entry_bytes, entry_for, padded_entries, page_of, pages_of, places_in, places_of, relocation_blocks, aligned, padded_bytes, header_bytes, made_image, fault_of}
 use Rattle.rom_builder.specs.LaidMadeImage.{with_base}
 use Rattle.rom_builder.specs.declared.parts.DriverParts.{DriverParts}
 use Rattle.rom_builder.proofs.SizeLemmas.{IsBuildable, buildable, made_image_size, length-header_bytes, length-padded_bytes}
@@ -27,7 +27,7 @@ use Rattle.rom_builder.proofs.SortedOnceLemmas.{rise-sorted_once}
 -- ---- entries that add the base
 
 -- an entry of type 10 adds it at its place
-entry_adds : (base page place : ℕ) (image : List ℕ) → nat_eq (page_of place) page ≡ true → relocated base image (block_entry (4096 * page) (40960 + place % 4096)) ≡ with_base base image place
+entry_adds : (base page place : ℕ) (image : List ℕ) → nat_eq (page_of place) page ≡ true → relocated base image (block_entry (4096 * page) (entry_for place)) ≡ with_base base image place
 unfolding relocated
 entry_adds base page place image here = rw (entry_kind place, entry_place page place here) refl
 

@@ -37,9 +37,13 @@ pages_of places = sorted_once (map page_of places)
 abbrev pub places_in : ℕ → List ℕ → List ℕ
 places_in page places = filter (λ place. nat_eq (page_of place) page) places
 
--- an entry for each place: type 10 in bits 15 to 12, and the offset in the page in bits 11 to 0
+-- the entry for a place: type 10 in bits 15 to 12, and the offset in the page in bits 11 to 0
+abbrev pub entry_for : (place : ℕ) → ℕ
+entry_for place = 0xA000 + place % 4096
+
+-- an entry for each place
 abbrev pub entry_bytes : List ℕ → List ℕ
-entry_bytes places = flat_map (λ place. little_bytes 2 (0xA000 + place % 4096)) places
+entry_bytes places = flat_map (λ place. little_bytes 2 (entry_for place)) places
 
 -- and one of type 0 if their number is odd, so that each block begins at a multiple of 4 bytes
 abbrev pub padded_entries : List ℕ → List ℕ

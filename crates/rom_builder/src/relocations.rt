@@ -2,7 +2,7 @@
 //! Block, Base Relocation Types).
 ghost use Rattle.std.specs.Prelude.{◌≡◌, ◌≤◌, ◌<◌, ◌+◌, ◌/◌, ◌%◌, ◌^◌, IfOk, OnOk, length, map, nat_eq};
 ghost use Rattle.std.specs.List.{take_while};
-ghost use Rattle.rom_builder.specs.MadeImage.{page_block, block_with, page_blocks, entry_bytes, padded_entries, places_of, relocation_blocks};
+ghost use Rattle.rom_builder.specs.MadeImage.{page_block, block_with, page_blocks, entry_bytes, entry_for, padded_entries, places_of, relocation_blocks};
 ghost use Rattle.rom_builder.specs.SortedOnce.{RiseFrom};
 
 use crate::parts::DriverParts;
@@ -108,14 +108,14 @@ fn entry_bytes(alloc: Global, places: &[usize]) -> Result<Vec<u8>, OutOfMemory>
 {
     let mut entries = Vec::new(alloc);
     for place in places {
-        entries.extend_from_slice(&entry_of(*place).to_le_bytes())?;
+        entries.extend_from_slice(&entry_for(*place).to_le_bytes())?;
     }
     Ok(entries)
 }
 
 /// The entry for a place.
-fn entry_of(place: usize) -> u16
-    ensures { result ≡ 0xA000 + place % 4096 }
+fn entry_for(place: usize) -> u16
+    ensures { result ≡ entry_for place }
 {
     DIR_64 + (place % PAGE) as u16
 }
