@@ -1,27 +1,23 @@
 -- How Start of the PCI bus driver makes its children, and what Stop frees, one after the other.
 use Rattle.std.proofs.Common.{◌≡◌, ℕ, ◌+◌, ◌<◌, ◌≤◌, Bool, true, false, not, ◌||◌, List, [], ◌∷◌, ◌++◌, length, drop, refl, sym, ap, ◌∙◌}
-use Rattle.std.specs.Prelude.{is_ok, nat_lt, Option, Some, None, slice_index_or, is_some, Result, Ok, Err, if◌then◌else◌}
+use Rattle.std.specs.Prelude.{is_ok, nat_lt, Option, Some, None, slice_index_or, Result, Ok, Err, if◌then◌else◌}
 use Rattle.std.proofs.lemmas.Bool.{or_right}
 use Rattle.std.proofs.lemmas.List.{drop_all}
 use Rattle.fw_types.specs.declared.attr.TheConstants.Attr.{BY_CHILD_CONTROLLER}
 use Rattle.fw_types.specs.declared.event.Cause.TheVariants.{Budget}
 use Rattle.fw_types.specs.declared.event.Outcome.{Outcome}
 use Rattle.fw_types.specs.declared.event.Outcome.TheVariants.{Value, Trapped}
-use Rattle.fw_types.specs.declared.status.Status.{Status}
-use Rattle.fw_types.specs.declared.status.TheConstants.Status.{OUT_OF_RESOURCES, SUCCESS}
+use Rattle.fw_types.specs.declared.status.TheConstants.Status.{OUT_OF_RESOURCES}
 use Rattle.world_model.specs.World.{State}
 use Rattle.world_model.specs.NewChild.{child_answer, has_rom, is_child_full, path_below}
 use Rattle.world_model.specs.declared.fault.WorldFault.{WorldFault}
 use Rattle.world_model.specs.declared.fault.WorldFault.TheVariants.{Full}
 use Rattle.service_model.specs.declared.call.HandleInterface.{HandleInterface}
-use Rattle.driver_model.specs.Moves.{adds_child, changed, frees, opens_root, pays, plain}
-use Rattle.driver_model.specs.Level.{Level}
+use Rattle.driver_model.specs.Moves.{adds_child, changed, frees, pays, plain}
 use Rattle.driver_model.specs.BusChildren.{bus_child_made, is_bus_child_full, is_root_record_full}
-use Rattle.driver_model.specs.BusDriver.{after_child, after_children, blocks_freed, bus_started, children_made, if_supported, unless_full}
-use Rattle.driver_model.specs.BusSupport.{functions_chosen, support_status}
+use Rattle.driver_model.specs.BusDriver.{after_child, blocks_freed, children_made}
 use Rattle.driver_model.specs.declared.bus_driver.NewChild.{NewChild}
 use Rattle.driver_model.specs.declared.bus_driver.TheConstants.{CHILD_PRICE}
-use Rattle.driver_model.specs.declared.call.Scope.{Scope}
 use Rattle.bind_parts.specs.BusTurns.{child_or_end, made_of}
 use Rattle.bind_parts.proofs.Lists.{next_is}
 

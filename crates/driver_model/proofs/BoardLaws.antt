@@ -4,7 +4,6 @@ use Rattle.std.specs.Prelude.{is_ok, Option}
 use Rattle.std.proofs.lemmas.List.{length-set}
 use Rattle.guest_memory.specs.declared.segment.SegKind.TheVariants.{Firmware}
 use Rattle.world_model.specs.Blocks.{free_answer}
-use Rattle.world_model.specs.ChildLaws.{HasBusLists}
 use Rattle.world_model.specs.Images.{image_of}
 use Rattle.world_model.specs.ImageSweep.{image_swept, swept_of}
 use Rattle.world_model.specs.NewChild.{child_added, has_rom, path_below}
@@ -12,11 +11,11 @@ use Rattle.world_model.specs.World.{Hard, Soft, State}
 use Rattle.world_model.specs.declared.image.LoadedImage.{LoadedImage}
 use Rattle.service_model.proofs.UntouchedParts.{lines-stay, looks-leave-lists, looks-spend-nothing}
 use Rattle.pci_model.specs.BoardLines.{functions}
-use Rattle.driver_model.specs.Moves.{Move, adds_child, begins_event, caps, changed, closes_all, closes_child, drops_all, drops_weak, ends_event, frees, adds_image, lists_images, looks_again, makes_thunk, opens_root, pays, pops, pushes, puts_back, returns, serves, sets_tpl, steps, uninstalls}
+use Rattle.driver_model.specs.Moves.{Move, adds_child, begins_event, caps, changed, drops_all, ends_event, frees, lists_images, looks_again, pays, puts_back, returns, serves}
 use Rattle.driver_model.specs.Allowed.{is_allowed}
 use Rattle.driver_model.specs.BoardLaws.{BoardStays, BusListsStay, HasSameBoard}
 use Rattle.driver_model.specs.BusChildren.{firmware_block_freed}
-use Rattle.driver_model.specs.Chains.{Chain, begins, joined, moves, none, on_stack, sets_aside, undoes}
+use Rattle.driver_model.specs.Chains.{begins, joined, moves, none, on_stack, sets_aside, undoes}
 use Rattle.driver_model.proofs.Keeping.{choose_by}
 
 -- ---- changes of the soft part

@@ -1,21 +1,18 @@
 -- What holds whenever the PCI bus driver changes the state, because of the tests that come before.
-use Rattle.std.proofs.Common.{◌≡◌, ℕ, Bool, true, false, [], ◌∷◌, Option, Some, None, refl, ap, sym, ◌∙◌}
-use Rattle.std.specs.Prelude.{Err, is_some}
+use Rattle.std.proofs.Common.{◌≡◌, ℕ, true, false, [], ◌∷◌, Option, Some, None, refl, ap, ◌∙◌}
+use Rattle.std.specs.Prelude.{is_some}
 use Rattle.fw_types.specs.Guid.{known_guid}
-use Rattle.fw_types.specs.declared.attr.TheConstants.Attr.{BY_DRIVER}
 use Rattle.fw_types.specs.declared.guid.Known.TheVariants.{PciIo}
-use Rattle.fw_types.specs.declared.status.TheConstants.Status.{UNSUPPORTED}
-use Rattle.handle_db.specs.Database.{interface_of, is_live}
+use Rattle.handle_db.specs.Database.{is_live}
 use Rattle.world_model.specs.World.{State}
 use Rattle.world_model.specs.Boards.{has_root_bridge_io, root_bus}
 use Rattle.world_model.specs.BusChildren.{child_function}
-use Rattle.world_model.specs.ChildLaws.{IsChild}
 use Rattle.world_model.specs.Kept.{IsKept}
 use Rattle.world_model.proofs.ChildLaws.{function_is_of_child}
-use Rattle.driver_model.specs.BusChildren.{is_below, is_child_of}
-use Rattle.driver_model.specs.BusLaws.{CanBeOpened, ChildCanBeIn, ChildIsIn, DeadIsNoChild, DeadIsUnsupported, DriversMayUninstall, RootCanBeOpened}
+use Rattle.driver_model.specs.BusChildren.{is_below}
+use Rattle.driver_model.specs.BusLaws.{ChildCanBeIn, DeadIsNoChild, DeadIsUnsupported, DriversMayUninstall, RootCanBeOpened}
 use Rattle.driver_model.specs.BusSupport.{chosen_on, functions_chosen, path_choice}
-use Rattle.driver_model.proofs.BusMoves.{ChildIsNew, bus_driver_live, new_child, root_live}
+use Rattle.driver_model.proofs.BusMoves.{bus_driver_live, new_child, root_live}
 use Rattle.driver_model.proofs.RootBridges.{has_root, is_root_io, root_stays}
 use Rattle.driver_model.proofs.WhatSweepsLeave.{live_with}
 

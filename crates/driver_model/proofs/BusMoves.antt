@@ -1,9 +1,8 @@
 -- What the moves of the PCI bus driver leave: what holds of every world, all stacks, and the bytes that no code may write.
-use Rattle.std.proofs.Common.{◌≡◌, ℕ, Bool, true, false, ◌&&◌, ◌||◌, not, nat_eq, nat_le, nat_lt, List, [], ◌∷◌, ◌++◌, length, Option, Some, None, refl, ap, sym, ◌∙◌, arith}
+use Rattle.std.proofs.Common.{◌≡◌, ℕ, Bool, true, false, ◌&&◌, ◌||◌, not, nat_eq, nat_le, nat_lt, List, length, Option, Some, None, refl, ap, ◌∙◌, arith}
 use Rattle.std.specs.Prelude.{Result, Ok, Err, find, is_ok, is_some, option_map, if◌then◌else◌}
-use Rattle.std.specs.List.{list_all, list_any}
-use Rattle.std.specs.Option.{option_map_or}
-use Rattle.std.proofs.lemmas.Bool.{and_from, and_parts, not-true, or_parts, or_right}
+use Rattle.std.specs.List.{list_any}
+use Rattle.std.proofs.lemmas.Bool.{and_parts, not-true, or_parts, or_right}
 use Rattle.std.proofs.lemmas.Bool.Decides.{nat_tests}
 use Rattle.fw_types.specs.Attr.{is_legal}
 use Rattle.fw_types.specs.Guid.{known_guid}
@@ -24,10 +23,9 @@ use Rattle.world_model.specs.World.{Soft, State}
 use Rattle.world_model.specs.Blocks.{block_added, block_freed, block_segment, free_answer, is_block_full}
 use Rattle.world_model.specs.Boards.{has_root_bridge_io, root_bus}
 use Rattle.world_model.specs.BusChildren.{child_function, child_noted, is_child, pci_io_of, with_bus_list}
-use Rattle.world_model.specs.Interfaces.{bus_driver, firmware, install_answer, interface, interface_added}
-use Rattle.world_model.specs.Kept.{IsKept, has_interface, has_pci_io, is_address}
-use Rattle.world_model.specs.NewChild.{IsChildPossible, block_interface_added, child_added, child_answer, has_rom, is_child_full, override_added, override_block, override_size, path_below, pci_io_block, pci_io_size, with_interfaces, with_path, with_pci_io}
-use Rattle.open_records.specs.Parties.{is_none_or_live}
+use Rattle.world_model.specs.Interfaces.{bus_driver, firmware, install_answer, interface}
+use Rattle.world_model.specs.Kept.{IsKept, has_interface, is_address}
+use Rattle.world_model.specs.NewChild.{IsChildPossible, block_interface_added, child_added, child_answer, has_rom, is_child_full, override_block, path_below, pci_io_block, with_interfaces, with_path, with_pci_io}
 use Rattle.world_model.proofs.KeepingBlocks.{allotting, freeing}
 use Rattle.world_model.proofs.KeepingChildren.{bus_list_set, noting}
 use Rattle.world_model.proofs.KeepingInterfaces.{installing}

@@ -7,7 +7,7 @@ use Rattle.std.proofs.lemmas.List.Folds.{list_any-append}
 use Rattle.fw_types.specs.Attr.{has_bit_of, is_legal, legal_attributes}
 use Rattle.fw_types.specs.declared.attr.TheConstants.Attr.{AGENT_BITS, ALL_BITS, BY_DRIVER, WEAK_BITS}
 use Rattle.fw_types.specs.declared.status.Status.{Status}
-use Rattle.fw_types.specs.declared.status.TheConstants.Status.{ACCESS_DENIED, INVALID_PARAMETER, NOT_FOUND, SUCCESS}
+use Rattle.fw_types.specs.declared.status.TheConstants.Status.{ABORTED, ACCESS_DENIED, INVALID_PARAMETER, NOT_FOUND, OUT_OF_RESOURCES, SUCCESS}
 use Rattle.handle_db.specs.Database.{IsSound, is_live}
 use Rattle.handle_db.specs.Removing.{removed}
 use Rattle.handle_db.proofs.Keeping.{removing}
@@ -20,13 +20,15 @@ use Rattle.open_records.specs.OpenRecords.{RecordTable, is_kept, records_of}
 use Rattle.open_records.specs.Leaving.{cut, is_meant, is_named, swept}
 use Rattle.open_records.specs.Managing.{is_managing}
 use Rattle.world_model.specs.World.{State}
+use Rattle.world_model.specs.Interfaces.{firmware}
 use Rattle.world_model.specs.Kept.{IsKept}
 use Rattle.world_model.proofs.Segments.{list_any-neither}
 use Rattle.service_model.specs.declared.call.HandleInterface.{HandleInterface}
 use Rattle.driver_model.specs.Moves.{changed, drops_weak, plain, uninstalls}
 use Rattle.driver_model.specs.Level.{Level}
 use Rattle.driver_model.specs.UninstallWithReconnection.{after_release, all_or_none, each_uninstalled, if_uninstalled, interface_on, is_first_there, is_kept_from, is_still_there, many_uninstalled, manager_on, records_on, released, taken_away, uninstalled, unless_open}
-use Rattle.driver_model.specs.EarlyRefusal.{EarlyRefusalsChangeNothing, is_in_use, is_listed, is_refused_after, refused_after}
+use Rattle.driver_model.specs.OpenWithRemoval.{is_passed_on}
+use Rattle.driver_model.specs.EarlyRefusal.{EarlyRefusalsChangeNothing, IsRefused, LateRefusalsChangeTheSoftPartAlone, is_in_use, is_listed, is_refused_after, refused_after}
 use Rattle.driver_model.specs.declared.call.Scope.{Scope}
 use Rattle.driver_model.specs.declared.request.Remover.TheVariants.{ADriver}
 use Rattle.driver_model.specs.declared.settings.Settings.{Settings}
@@ -203,10 +205,12 @@ module _ (settings : Settings) (below : Option (Level State)) (scope : Scope) (f
       still None there free = absurd cc
       still (Some found) there free = rw (there, free) refl
 
-      after : is_still_there ADriver i.interface (interface_on i w.soft) ≡ true → after_release plain settings below scope ADriver i (SUCCESS, w) ≡ (SUCCESS, gone i w)
+      after : (status : Status) → is_passed_on status ≡ false → is_still_there ADriver i.interface (interface_on i w.soft) ≡ true
+          → after_release plain settings below scope ADriver i (status, w) ≡ (SUCCESS, gone i w)
       unfolding after_release
-      after there =
-          ap (λ (b : Bool). if b then taken_away plain settings below scope i (changed (drops_weak i.handle i.guid) w) else (NOT_FOUND, w)) there ∙ taken
+      after status answered there =
+          ap (λ (b : Bool). if b then (status, w) else if is_still_there ADriver i.interface (interface_on i w.soft) then taken_away plain settings below scope i (changed (drops_weak i.handle i.guid) w) else (NOT_FOUND, w)) answered
+          ∙ ap (λ (b : Bool). if b then taken_away plain settings below scope i (changed (drops_weak i.handle i.guid) w) else (NOT_FOUND, w)) there ∙ taken
 
       goes : is_refused_after before i first.soft ≡ false → uninstalled plain settings below scope ADriver i w ≡ (SUCCESS, gone i w)
       unfolding uninstalled
@@ -219,7 +223,7 @@ module _ (settings : Settings) (below : Option (Level State)) (scope : Scope) (f
           let free : is_kept_from ADriver (interface_on i w.soft) ≡ false = ap (is_kept_from ADriver) same ∙ tests.1 in
           through (is_first_there ADriver i.interface (interface_on i w.soft)) (is_kept_from ADriver (interface_on i w.soft)) (after_release plain settings below scope ADriver i (released plain below scope i (manager_on i w.soft) w)) there free
           ∙ ap (λ (manager : Option ℕ). after_release plain settings below scope ADriver i (released plain below scope i manager w)) no_manager
-          ∙ after (still (interface_on i w.soft) there free)
+          ∙ after SUCCESS refl (still (interface_on i w.soft) there free)
         where
           positive : (b : Bool) → not b ≡ false → b ≡ true
           positive true is = refl
@@ -270,3 +274,56 @@ unfolding many_uninstalled
 early-law settings below scope interfaces w kept refused =
     let ends = each_ends settings below scope w kept interfaces [] w (at_first w kept) refused in
     put_back w (each_uninstalled plain settings below scope ADriver interfaces w) ends.0 ends.1
+
+-- ---- after a driver was disconnected
+
+-- what a driver may remove at the second look, it may remove at the first
+first-too : (interface : ℕ) (found : Option (ℕ × ℕ)) → is_still_there ADriver interface found ≡ true
+    → (not (is_first_there ADriver interface found) || is_kept_from ADriver found) ≡ false
+first-too interface None there = absurd cc
+first-too interface (Some found) there =
+    let parts = and_parts (nat_eq found.0 interface) (not (nat_eq found.1 firmware)) there in
+    rw (parts.0, not-true (nat_eq found.1 firmware) parts.1) refl
+
+not_used : (used refused : Bool) → (not used && refused) ≡ true → (used ≡ false) × (refused ≡ true)
+not_used true refused is = absurd cc
+not_used false refused is = (refl, is)
+
+-- what is passed on is no success
+passed_fails : (status : Status) → is_passed_on status ≡ true → nat_eq status.0 SUCCESS.0 ≡ false
+passed_fails status is =
+    elim (or_cases (nat_eq status.0 OUT_OF_RESOURCES.0) (nat_eq status.0 ABORTED.0) is) [
+      | inl out ↦ ap (λ (number : ℕ). nat_eq number SUCCESS.0) (eqb-true status.0 OUT_OF_RESOURCES.0 out)
+      | inr aborted ↦ ap (λ (number : ℕ). nat_eq number SUCCESS.0) (eqb-true status.0 ABORTED.0 aborted)
+    ]
+
+-- the disconnect's answer is passed on, or the first pair is refused, or it goes
+pub late-law : LateRefusalsChangeTheSoftPartAlone
+unfolding after_release
+late-law settings below scope i interfaces status w kept refused =
+    by_answer (is_passed_on status) refl
+  where
+    others : State → Bool × State
+    others = each_uninstalled plain settings below scope ADriver interfaces
+
+    Ended : Status × State → Type 0
+    Ended r = IsRefused w.hard (if_uninstalled plain others r)
+
+    by_look : (there : Bool) → is_passed_on status ≡ false → is_still_there ADriver i.interface (interface_on i w.soft) ≡ there
+        → Ended (after_release plain settings below scope ADriver i (status, w))
+    by_look false answered is =
+        let absent : after_release plain settings below scope ADriver i (status, w) ≡ (NOT_FOUND, w) = rw (answered, is) refl in
+        subst Ended (sym absent) (record { answer = refl; hard = refl })
+    by_look true answered is =
+        let fine : is_refused_after [] i w.soft ≡ false = first-too i.interface (interface_on i w.soft) is in
+        let parts : (is_in_use i w.soft ≡ false) × (refused_after (i ∷ []) interfaces w.soft ≡ true) = not_used (is_in_use i w.soft) (refused_after (i ∷ []) interfaces w.soft) (rw fine at refused) in
+        let ends = each_ends settings below scope w kept interfaces (i ∷ []) (gone i w) (is_later w [] i w (at_first w kept)) parts.1 in
+        subst Ended (sym (after settings below scope w kept [] i w (at_first w kept) parts.0 status answered is))
+        (record { answer = ends.0; hard = ends.1 })
+
+    by_answer : (passed : Bool) → is_passed_on status ≡ passed → Ended (after_release plain settings below scope ADriver i (status, w))
+    by_answer true is =
+        let failed : nat_eq status.0 SUCCESS.0 ≡ false = passed_fails status is in
+        let answer : after_release plain settings below scope ADriver i (status, w) ≡ (status, w) = rw is refl in
+        subst Ended (sym answer) (rw failed (record { answer = refl; hard = refl }))
+    by_answer false is = by_look (is_still_there ADriver i.interface (interface_on i w.soft)) is refl

@@ -1,6 +1,6 @@
 -- After an unload that succeeds nothing of the image is left, and everything else is as its handler
 -- left it.
-use Rattle.std.proofs.Common.{◌≡◌, ◌<◌, ℕ, suc, [], Some, refl, sym, ap, ◌∙◌, subst}
+use Rattle.std.proofs.Common.{◌≡◌, ◌<◌, ℕ, suc, [], Some, refl, sym, subst}
 use Rattle.fw_types.specs.declared.limits.TheConstants.{MOST_LEVELS}
 use Rattle.fw_types.specs.declared.status.TheConstants.Status.{SUCCESS}
 use Rattle.world_model.specs.World.{Soft, State}

@@ -1,14 +1,13 @@
 -- Every activation, driver call and run keeps what each single move keeps, at all levels.
-use Rattle.std.proofs.Common.{◌≡◌, ◌<◌, subst, ℕ, ◌+◌, zero, suc, Bool, true, false, ◌&&◌, ◌||◌, not, nat_eq, nat_lt, List, [], ◌∷◌, Option, Some, None, refl, arith}
+use Rattle.std.proofs.Common.{◌≡◌, ◌<◌, subst, ℕ, zero, suc, Bool, true, false, ◌&&◌, ◌||◌, not, nat_eq, nat_lt, List, [], ◌∷◌, Option, Some, None, refl}
 use Rattle.std.specs.Prelude.{Result, Ok, Err, is_ok, is_some, ok_or, if◌then◌else◌}
 use Rattle.std.specs.List.{list_all}
 use Rattle.std.proofs.lemmas.Bool.{and_from, and_parts, or_right}
 use Rattle.fw_types.specs.declared.event.Cause.{Cause}
-use Rattle.fw_types.specs.declared.event.Cause.TheVariants.{Align, Budget, Fetch, Memory}
+use Rattle.fw_types.specs.declared.event.Cause.TheVariants.{Align, Fetch, Memory}
 use Rattle.fw_types.specs.declared.event.EventKind.{EventKind}
 use Rattle.fw_types.specs.declared.event.EventKind.TheVariants as event
 use Rattle.fw_types.specs.declared.event.Outcome.{Outcome}
-use Rattle.fw_types.specs.declared.event.Outcome.TheVariants.{Trapped}
 use Rattle.fw_types.specs.declared.limits.TheConstants.{CALL_PRICE, MOST_LEVELS}
 use Rattle.fw_types.specs.declared.status.Status.{Status}
 use Rattle.fw_types.specs.declared.status.TheConstants.Status.{ABORTED, SUCCESS}
@@ -24,7 +23,6 @@ use Rattle.ebc_machine.specs.declared.cpu.StepOut.TheVariants.{Next, Native, Mak
 use Rattle.service_thunks.specs.declared.service.Service.{Service}
 use Rattle.world_model.specs.declared.fault.WorldFault.{WorldFault}
 use Rattle.world_model.specs.World.{Soft, State}
-use Rattle.world_model.specs.Events.{next_serial}
 use Rattle.world_model.specs.Interfaces.{firmware}
 use Rattle.world_model.specs.Images.{image_at}
 use Rattle.world_model.specs.Thunks.{thunk_answer}
@@ -37,7 +35,7 @@ use Rattle.service_model.specs.declared.call.Reentry.TheVariants.{Connect, Disco
 use Rattle.service_model.specs.declared.call.Removal.{Removal}
 use Rattle.service_model.specs.declared.call.Served.{Served}
 use Rattle.service_model.specs.declared.call.Served.TheVariants as served_as
-use Rattle.driver_model.specs.Moves.{Move, Operations, changed, pays, caps, returns, begins_event, ends_event, steps, serves, looks_again, makes_thunk, pushes, pops, sets_tpl, puts_back, closes_all, closes_child, drops_weak, uninstalls}
+use Rattle.driver_model.specs.Moves.{Move, Operations, changed, pays, caps, returns, begins_event, steps, serves, looks_again, makes_thunk, pushes, pops, puts_back, closes_all, closes_child, drops_weak, uninstalls}
 use Rattle.driver_model.specs.Allowed.{has_lasting_interfaces, has_sixteen, is_allowed, is_allowed_in_calls, is_unload, may_go}
 use Rattle.driver_model.specs.Level.{Level}
 use Rattle.driver_model.specs.Turn.{Turn}
@@ -51,15 +49,12 @@ use Rattle.driver_model.specs.GoingOn.{gone_on, reentered}
 use Rattle.driver_model.specs.ThunkRequests.{◌>>◌, entry_from, is_even, must, requested_entry, thunk_by, thunk_for}
 use Rattle.driver_model.specs.NativeCalls.{callee, caller, native_called, passed_slots, returned, service_called, thunk_entered, thunk_returned}
 use Rattle.driver_model.specs.GuestRun.{acted, after_step, run, turn, turns, unless_over}
-use Rattle.driver_model.specs.DriverCall.{allowance, begun, called, code_of, commits, ended, entered, entered_by, entry_cpu, event_kind, kept_or_undone, ran_on_stack}
-use Rattle.driver_model.specs.Levels.{below, level_over, level_with}
+use Rattle.driver_model.specs.DriverCall.{called}
 use Rattle.driver_model.specs.declared.binding.BindingBlock.{BindingBlock}
 use Rattle.driver_model.specs.declared.call.Call.{Call}
-use Rattle.driver_model.specs.declared.call.CallKind.{CallKind}
 use Rattle.driver_model.specs.declared.call.CallKind.TheVariants.{Supported, Start}
 use Rattle.driver_model.specs.declared.call.Callee.{Callee}
 use Rattle.driver_model.specs.declared.call.Callee.TheVariants.{AService, AThunk, Nothing}
-use Rattle.driver_model.specs.declared.call.Code.{Code}
 use Rattle.driver_model.specs.declared.call.RunEnd.{RunEnd}
 use Rattle.driver_model.specs.declared.call.RunEnd.TheVariants.{Over, Returned}
 use Rattle.driver_model.specs.declared.call.Scope.{Scope}

@@ -1,15 +1,13 @@
 -- Start and Stop of the PCI bus driver keep what each single move keeps.
-use Rattle.std.proofs.Common.{◌≡◌, ℕ, Bool, true, false, ◌&&◌, ◌||◌, not, nat_eq, List, [], ◌∷◌, ◌++◌, Option, Some, None, refl, sym, ap, subst}
-use Rattle.std.specs.Prelude.{Result, Ok, Err, is_some, if◌then◌else◌}
+use Rattle.std.proofs.Common.{◌≡◌, ℕ, Bool, true, false, ◌&&◌, ◌||◌, not, List, [], ◌∷◌, Option, Some, None, refl, sym, ap, subst}
+use Rattle.std.specs.Prelude.{Result, Ok, Err, is_some}
 use Rattle.std.specs.List.{list_all}
-use Rattle.std.specs.Option.{option_map_or}
-use Rattle.std.proofs.lemmas.Bool.{and_from, and_parts, not-true}
+use Rattle.std.proofs.lemmas.Bool.{and_from}
 use Rattle.fw_types.specs.Guid.{known_guid}
 use Rattle.fw_types.specs.declared.event.Outcome.{Outcome}
-use Rattle.fw_types.specs.declared.guid.Known.TheVariants.{BusOverride, RootBridgeIo}
+use Rattle.fw_types.specs.declared.guid.Known.TheVariants.{BusOverride}
 use Rattle.fw_types.specs.declared.status.Status.{Status}
-use Rattle.fw_types.specs.declared.status.TheConstants.Status.{SUCCESS}
-use Rattle.handle_db.specs.Database.{Database, interface_of, is_live}
+use Rattle.handle_db.specs.Database.{interface_of, is_live}
 use Rattle.open_records.specs.Verdicts.{may_enter}
 use Rattle.open_records.specs.declared.verdict.Verdict.{Verdict}
 use Rattle.open_records.specs.declared.verdict.Verdict.TheVariants.{Add, Count, Already, Denied, MustDisconnect}
@@ -17,13 +15,12 @@ use Rattle.world_model.specs.World.{Soft, State}
 use Rattle.world_model.specs.Boards.{rom_of, root_bus}
 use Rattle.world_model.specs.BusChildren.{rom_done}
 use Rattle.service_model.specs.declared.call.HandleInterface.{HandleInterface}
-use Rattle.driver_model.specs.Moves.{Operations, adds_child, changed, frees, lists_images, opens_root, pays}
-use Rattle.driver_model.specs.Allowed.{is_allowed, may_go}
+use Rattle.driver_model.specs.Moves.{Operations, adds_child, frees, lists_images, opens_root, pays}
+use Rattle.driver_model.specs.Allowed.{may_go}
 use Rattle.driver_model.specs.BusLaws.{AllMayGo, IsSupported, SupportedIsRoot}
 use Rattle.driver_model.specs.BusChildren.{has_of_firmware, interfaces_to_go, is_bus_child_full, is_child_of, is_root_full, override_to_go}
-use Rattle.driver_model.specs.BusDriver.{after_child, after_children, after_load, after_taking, below_last, blocks_freed, bus_started, bus_stopped, child_stopped, children_made, if_supported, images_loaded, is_child_short, rom_loaded, rom_processed, roms_processed, unless_full, with_loaded}
-use Rattle.driver_model.specs.BusSupport.{choice_by, chosen_on, functions_chosen, path_choice, refusal_by, root_verdict, unless_open}
-use Rattle.driver_model.specs.ImageLife.{Load, image_loaded}
+use Rattle.driver_model.specs.BusDriver.{after_child, after_children, after_taking, below_last, blocks_freed, bus_started, bus_stopped, child_stopped, children_made, if_supported, images_loaded, is_child_short, rom_loaded, rom_processed, roms_processed}
+use Rattle.driver_model.specs.BusSupport.{chosen_on, functions_chosen, path_choice, refusal_by, root_verdict, unless_open}
 use Rattle.driver_model.specs.Level.{Level}
 use Rattle.driver_model.specs.RomDrivers.{drivers_in}
 use Rattle.driver_model.specs.UninstallWithReconnection.{each_uninstalled}

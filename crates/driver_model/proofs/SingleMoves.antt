@@ -1,5 +1,5 @@
 -- Each move that can be made leaves what holds of every world, all stacks, and the bytes that no code may write.
-use Rattle.std.proofs.Common.{◌≡◌, ◌<◌, inl, inr, ℕ, true, false, ◌&&◌, ◌||◌, not, nat_lt, bytes_eq, List, length, refl, ap, ◌∙◌, arith}
+use Rattle.std.proofs.Common.{◌≡◌, ◌<◌, inl, inr, ℕ, true, false, ◌&&◌, ◌||◌, not, nat_lt, bytes_eq, List, length, refl, arith}
 use Rattle.std.specs.Prelude.{is_ok, is_some}
 use Rattle.std.proofs.lemmas.Bool.{and_parts, not-true, or_cases, or_parts}
 use Rattle.std.proofs.lemmas.Bool.Decides.{nat_tests}
@@ -14,7 +14,6 @@ use Rattle.ebc_machine.specs.declared.cpu.Cpu.{Cpu}
 use Rattle.handle_db.specs.Database.{interface_of}
 use Rattle.world_model.specs.World.{Soft, State, with_memory, with_tpl}
 use Rattle.world_model.specs.Blocks.{block_added, block_freed, block_segment}
-use Rattle.world_model.specs.Fixed.{fixed_segments}
 use Rattle.world_model.specs.Images.{block_contents, image_added, image_at, image_block_segment, image_segment, is_image_full}
 use Rattle.world_model.specs.Interfaces.{is_lasting}
 use Rattle.world_model.specs.Kept.{IsKept}

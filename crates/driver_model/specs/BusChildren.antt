@@ -1,6 +1,6 @@
 -- The children of the PCI bus driver: the handle that it makes for a function, and what is below a root bridge (UEFI 2.8,
 -- 14.3.2: PCI Bus Drivers).
-use Rattle.std.specs.Prelude.{ℕ, Bool, false, ◌&&◌, ◌||◌, not, nat_eq, is_ok, List, [], ◌∷◌, filter_map, Option, Some, None, if◌then◌else◌}
+use Rattle.std.specs.Prelude.{ℕ, Bool, false, ◌||◌, not, nat_eq, is_ok, List, [], ◌∷◌, Option, Some, None, if◌then◌else◌}
 use Rattle.std.specs.Option.{option_map_or}
 use Rattle.fw_types.specs.Guid.{known_guid}
 use Rattle.fw_types.specs.declared.attr.TheConstants.Attr.{BY_CHILD_CONTROLLER, BY_DRIVER}

@@ -29,7 +29,6 @@ use Rattle.fw_types.specs.declared.image.ImageNote.TheVariants as note
 use Rattle.fw_types.specs.declared.status.Status.{Status}
 use Rattle.fw_types.specs.declared.status.TheConstants.Status.{DEVICE_ERROR, OUT_OF_RESOURCES, SUCCESS}
 use Rattle.handle_db.specs.Database.{is_live}
-use Rattle.world_model.specs.World.{State}
 use Rattle.world_model.specs.Boards.{rom_of}
 use Rattle.world_model.specs.BusChildren.{rom_done}
 use Rattle.service_model.specs.declared.call.HandleInterface.{HandleInterface}

@@ -12,7 +12,7 @@
 --  6. The task priority level is as at the beginning, and the event ends (`ended`). Supported never commits. The other
 --     kinds commit exactly if the value has bit 63 clear. A call that does not commit leaves the soft part as it was when
 --     it began. Units and events are never undone (`kept_or_undone`).
-use Rattle.std.specs.Prelude.{ℕ, Bool, false, ◌&&◌, min, nat_eq, nat_lt, List, [], ◌∷◌, slice_index, Option, Some, None, if◌then◌else◌}
+use Rattle.std.specs.Prelude.{ℕ, Bool, false, ◌&&◌, min, nat_eq, nat_lt, List, [], slice_index, Option, Some, None, if◌then◌else◌}
 use Rattle.fw_types.specs.declared.event.Cause.TheVariants.{BadCall, Budget}
 use Rattle.fw_types.specs.declared.event.EventKind.{EventKind}
 use Rattle.fw_types.specs.declared.event.EventKind.TheVariants as event

@@ -1,5 +1,5 @@
 -- What an unload leaves (UEFI 2.8, 7.4: EFI_BOOT_SERVICES.UnloadImage()).
-use Rattle.std.specs.Prelude.{◌≡◌, ◌≢◌, ◌<◌, ℕ, suc, Bool, true, false, ◌||◌, not, nat_eq, List, [], filter, Option, Some, None, is_some, Ok, if◌then◌else◌}
+use Rattle.std.specs.Prelude.{◌≡◌, ◌≢◌, ◌<◌, ℕ, suc, Bool, true, false, ◌||◌, not, nat_eq, List, [], filter, Some, None, is_some, Ok}
 use Rattle.std.specs.List.{list_any}
 use Rattle.fw_types.specs.Guid.{known_guid}
 use Rattle.fw_types.specs.declared.guid.Known.TheVariants.{LoadedImage as LoadedImageProtocol}

@@ -1,1 +1,2 @@
 pub mod AtLevel
+pub mod Outcomes

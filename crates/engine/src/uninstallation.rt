@@ -1,6 +1,6 @@
 //! UninstallProtocolInterface and UninstallMultipleProtocolInterfaces of interfaces that may be in use
 //! (UEFI 2.8, 7.3).
-ghost use Rattle.std.specs.Prelude.{◌≡◌, ◌≤◌, IfOk, OnOk, is_ok, length, true, false};
+ghost use Rattle.std.specs.Prelude.{◌≡◌, ◌<◌, ◌≤◌, IfOk, OnOk, is_ok, length, true, false};
 ghost use Rattle.std.specs.List.{list_all};
 ghost use Rattle.fw_types.specs.declared.limits.TheConstants.{MOST_LEVELS as most_levels};
 ghost use Rattle.world_model.specs.Interfaces.{is_lasting, uninstall_answer};
@@ -9,7 +9,9 @@ ghost use Rattle.world_model.specs.Marks.{stacks};
 ghost use Rattle.driver_model.specs.Moves.{plain};
 ghost use Rattle.driver_model.specs.Allowed.{may_go};
 ghost use Rattle.driver_model.specs.UninstallWithReconnection.{after_release, each_uninstalled, many_uninstalled, manager_on as manager_value, released, taken_away, uninstalled};
+ghost use Rattle.driver_model.specs.declared.request.Remover.TheVariants.{ADriver};
 ghost use Rattle.engine.specs.AtLevel.{level_below};
+ghost use Rattle.engine.specs.Outcomes.{IsFirstStep, IsOutcome};
 ghost use Rattle.bind_parts.specs.Events.{NoFewerEvents};
 
 use crate::connection::connect;
@@ -19,7 +21,9 @@ use bind_parts::{
     remove_interface, settle_all,
 };
 use driver_model::bus_laws::drivers_may_uninstall;
-use driver_model::uninstall_laws::early_refusals_change_nothing;
+use driver_model::uninstall_laws::{
+    early_refusals_change_nothing, late_refusals_change_the_soft_part_alone,
+};
 use driver_model::{Connection, Disconnection, Remover, Scope, Settings};
 use fw_types::{Handle, OutOfMemory, Status};
 use fw_world::World;
@@ -209,6 +213,77 @@ pub fn uninstall_each(
     Ok(true)
 }
 
+/// Uninstalls the first of some interfaces for a driver, as `uninstall` does, and answers whether it did. If a
+/// driver was disconnected for that, and one of the interfaces is then refused for certain, the first one stays,
+/// and the answer is `false`. So no handle goes with all records that name it, only to come back.
+#[cycle(engine)]
+fn uninstall_first(
+    world: &mut World,
+    settings: &Settings,
+    room: u8,
+    scope: Scope,
+    interfaces: &[HandleInterface],
+) -> Result<bool, OutOfMemory>
+    requires some { 0 < length interfaces.now }
+    requires room { room ≤ most_levels }
+    requires free { is_free room (stacks world.old.now.soft) world.old.marks ≡ true }
+    requires marks { has_marks 0 room world.old.marks ≡ true }
+    ensures now { IfOk result (λ gone.
+        IsFirstStep gone world.new.now
+        (each_uninstalled plain settings.now (level_below settings.now room) scope ADriver)
+        interfaces.now world.old.now) }
+    ensures marks { OnOk result (world.new.marks ≡ world.old.marks) }
+    ensures stacks { OnOk result (stacks world.new.now.soft ≡ stacks world.old.now.soft) }
+    ensures units { OnOk result (world.new.now.hard.units ≤ world.old.now.hard.units) }
+    ensures events { OnOk result (NoFewerEvents world.old.now world.new.now) }
+{
+    let remover = Remover::ADriver;
+    let i = &interfaces[0];
+    if !is_first_there(world, remover, i) || is_kept_from(world, remover, i) {
+        return Ok(false);
+    }
+    let is_managed = manager_on(world, i).is_some();
+    let status = release(world, settings, room, scope, i)?;
+    if is_managed && is_refused_early(world, interfaces) {
+        late_refusals_change_the_soft_part_alone();
+        world.is_kept();
+        return Ok(false);
+    }
+    drivers_may_uninstall();
+    let last = uninstall_released(world, settings, room, scope, remover, i, status)?;
+    Ok(last == Status::SUCCESS)
+}
+
+/// Uninstalls interfaces for a driver one after the other, and answers whether all are uninstalled. If one is
+/// refused, the soft part is to be put back by the caller, whatever has changed in it.
+#[cycle(engine)]
+fn uninstall_all(
+    world: &mut World,
+    settings: &Settings,
+    room: u8,
+    scope: Scope,
+    interfaces: &[HandleInterface],
+) -> Result<bool, OutOfMemory>
+    requires room { room ≤ most_levels }
+    requires free { is_free room (stacks world.old.now.soft) world.old.marks ≡ true }
+    requires marks { has_marks 0 room world.old.marks ≡ true }
+    ensures now { IfOk result (λ all.
+        IsOutcome all world.new.now
+        (each_uninstalled plain settings.now (level_below settings.now room) scope ADriver
+        interfaces.now world.old.now)) }
+    ensures marks { OnOk result (world.new.marks ≡ world.old.marks) }
+    ensures stacks { OnOk result (stacks world.new.now.soft ≡ stacks world.old.now.soft) }
+    ensures units { OnOk result (world.new.now.hard.units ≤ world.old.now.hard.units) }
+    ensures events { OnOk result (NoFewerEvents world.old.now world.new.now) }
+{
+    for at in 0..interfaces.len() {
+        if !uninstall_first(world, settings, room, scope, &interfaces[at..])? {
+            return Ok(false);
+        }
+    }
+    Ok(true)
+}
+
 /// Uninstalls all interfaces of a list, for a driver, and answers SUCCESS; or leaves the soft part as it was,
 /// and answers INVALID_PARAMETER. A list that comes to a refused pair before any driver would be called is
 /// refused at once, so that no interface is removed and put back.
@@ -245,8 +320,6 @@ pub fn uninstall_many(
     levels_are_free();
     marks_suffice();
     let mark = world.mark();
-    drivers_may_uninstall();
-    let by_driver = Remover::ADriver;
-    let all = uninstall_each(world, settings, room, scope, by_driver, interfaces)?;
+    let all = uninstall_all(world, settings, room, scope, interfaces)?;
     settle_all(world, mark, all)
 }

@@ -1,13 +1,14 @@
-use Rattle.std.proofs.Common.{◌≡◌, ◌+◌, ◌-◌, ◌<◌, ◌∷◌, Some, sym, ap, ◌∙◌, arith, rules, true, false, nat_eq, nat_lt}
+use Rattle.std.proofs.Common.{◌≡◌, ◌+◌, ◌-◌, ◌<◌, List, ◌∷◌, Some, sym, ap, ◌∙◌, arith, rules, true, false, nat_eq, nat_lt}
 use Rattle.std.proofs.lemmas.Bool.Decides.{nat_tests}
 use Rattle.fw_types.specs.declared.limits.TheConstants.{CALL_PRICE}
 use Rattle.fw_types.specs.declared.status.TheConstants.Status.{SUCCESS}
 use Rattle.guest_memory.specs.declared.address_map.TheConstants.{EXIT}
+use Rattle.service_model.specs.declared.call.HandleInterface.{HandleInterface}
 use Rattle.driver_model.specs.Moves.{changed, pays, plain}
 use Rattle.driver_model.specs.BusChildren.{interfaces_to_go, is_child_of}
 use Rattle.driver_model.specs.BusDriver.{blocks_freed, bus_stopped, roms_processed}
 use Rattle.driver_model.specs.UninstallWithReconnection.{each_uninstalled}
-use Rattle.driver_model.specs.declared.request.Remover.TheVariants.{TheFirmware}
+use Rattle.driver_model.specs.declared.request.Remover.TheVariants.{ADriver, TheFirmware}
 use Rattle.driver_model.specs.declared.bus_driver.TheConstants.{CHILD_PRICE}
 use Rattle.driver_model.specs.Levels.{level_with}
 use Rattle.engine.specs.AtLevel.{level_at, level_below}
@@ -20,7 +21,8 @@ use Rattle.engine.proofs.Loads.{free_after_laying, on_ok, stacks_after_laying, s
 use Rattle.engine.proofs.Searches.{asked_all, asked_no, asked_yes, visited_all, visited_next}
 use Rattle.engine.proofs.Stops.{disconnected_is, turns_all, turns_next}
 use Rattle.engine.proofs.Turns.{through, thunk_is, thunk_nests, turn_taken}
-use Rattle.engine.proofs.Uninstalls.{each_all, each_ends, each_next, refused, succeeded}
+use Rattle.engine.proofs.Uninstalls.{absent_first, after_place, all_went, each_all, each_ends, each_next, from_place, kept_first, refused, refused_later, succeeded, uninstalled_first}
+use Rattle.engine.proofs.+engine.Goals.{uninstallation::uninstall_first-then-not-is_first_there-via-then-not-is_first_there, uninstallation::uninstall_first-then-not-is_first_there-via-else-not-is_first_there+then-is_kept_from}
 use Rattle.engine.proofs.+engine.Goals as goal
 
 -- ---- driver calls
@@ -151,6 +153,52 @@ uninstallation::uninstall_each-loop-i-preserved t c = record {
 
 pub uninstallation::uninstall_each-returns-clause-now : goal.uninstallation::uninstall_each-returns-clause-now
 uninstallation::uninstall_each-returns-clause-now t c = sym c.loop-i.invariant.rest ∙ each_all _ _ _ _ _ _ _ c.loop-i-test.false
+
+pub uninstallation::uninstall_first-returns-then-not-is_first_there-clause-now : goal.uninstallation::uninstall_first-returns-then-not-is_first_there-clause-now
+uninstallation::uninstall_first-returns-then-not-is_first_there-clause-now t c = elim c.then-not-is_first_there.branch [
+  | uninstallation::uninstall_first-then-not-is_first_there-via-then-not-is_first_there o ↦
+      absent_first c.args.settings.now (level_below c.args.settings.now c.args.room) c.args.scope c.args.interfaces.now c.index-interfaces-0.result c.args.world.now.now c.requires.some c.index-interfaces-0.is
+      (sym c.is_first_there.ensures ∙ o.if-not-is_first_there.true)
+  | uninstallation::uninstall_first-then-not-is_first_there-via-else-not-is_first_there+then-is_kept_from o ↦
+      kept_first c.args.settings.now (level_below c.args.settings.now c.args.room) c.args.scope c.args.interfaces.now c.index-interfaces-0.result c.args.world.now.now c.requires.some c.index-interfaces-0.is
+      (sym c.is_first_there.ensures ∙ o.if-not-is_first_there.false)
+      (sym o.is_kept_from.ensures ∙ o.if-is_kept_from.true)
+]
+
+pub uninstallation::uninstall_first-returns-then-is_refused_early-clause-now : goal.uninstallation::uninstall_first-returns-then-is_refused_early-clause-now
+uninstallation::uninstall_first-returns-then-is_refused_early-clause-now t c =
+    refused_later c.args.settings.now (level_below c.args.settings.now c.args.room) c.args.scope c.args.interfaces.now c.index-interfaces-0.result c.args.world.now.now c.requires.some c.index-interfaces-0.is
+    c.release.new.world.now c.in_ok-status.status
+    (sym c.is_first_there.ensures ∙ c.if-not-is_first_there.false) (sym c.is_kept_from.ensures ∙ c.if-is_kept_from.false) c.in_ok-status.ensures.now
+    c.late_refusals_change_the_soft_part_alone.ensures c.is_kept.ensures
+    (sym c.is_refused_early.ensures ∙ c.if-is_refused_early.true)
+
+pub uninstallation::uninstall_first-returns-clause-now : goal.uninstallation::uninstall_first-returns-clause-now
+uninstallation::uninstall_first-returns-clause-now t c =
+    uninstalled_first c.args.settings.now (level_below c.args.settings.now c.args.room) c.args.scope c.args.interfaces.now c.index-interfaces-0.result c.args.world.now.now c.requires.some c.index-interfaces-0.is
+    c.release.new.world.now c.in_ok-status.status
+    (sym c.is_first_there.ensures ∙ c.if-not-is_first_there.false) (sym c.is_kept_from.ensures ∙ c.if-is_kept_from.false) c.in_ok-status.ensures.now
+    c.in_ok-last.last c.uninstall_released.new.world.now c.eq.result c.in_ok-last.ensures.now c.eq.ensures
+
+pub uninstallation::uninstall_all-loop-at-preserved : goal.uninstallation::uninstall_all-loop-at-preserved
+uninstallation::uninstall_all-loop-at-preserved t c = record {
+  rest =
+      ap (λ (list : List HandleInterface). each_uninstalled plain c.args.settings.now (level_below c.args.settings.now c.args.room) c.args.scope ADriver list c.uninstall_first.new.world.now)
+      (sym (after_place c.loop-at.at c.args.interfaces.now))
+      ∙ sym (c.in_ok-uninstall_first.ensures.now.goes_on c.if-not-branch.false)
+      ∙ ap (λ (list : List HandleInterface). each_uninstalled plain c.args.settings.now (level_below c.args.settings.now c.args.room) c.args.scope ADriver list c.loop-at.world.now)
+      (from_place c.loop-at.at c.args.interfaces.now)
+      ∙ c.loop-at.invariant.rest;
+  marks = c.in_ok-uninstall_first.ensures.marks ∙ c.loop-at.invariant.marks;
+  stacks = c.in_ok-uninstall_first.ensures.stacks ∙ c.loop-at.invariant.stacks;
+  units = omega (arith, c.in_ok-uninstall_first.ensures.units, c.loop-at.invariant.units);
+  events = omega (arith, c.in_ok-uninstall_first.ensures.events, c.loop-at.invariant.events);
+}
+
+pub uninstallation::uninstall_all-returns-clause-now : goal.uninstallation::uninstall_all-returns-clause-now
+uninstallation::uninstall_all-returns-clause-now t c =
+    all_went (each_uninstalled plain c.args.settings.now (level_below c.args.settings.now c.args.room) c.args.scope ADriver c.args.interfaces.now c.args.world.now.now) c.loop-at.world.now
+    (sym c.loop-at.invariant.rest ∙ each_all _ _ _ _ _ _ _ c.loop-at-test.false)
 
 pub uninstallation::uninstall_many-returns-then-is_refused_early-clause-now : goal.uninstallation::uninstall_many-returns-then-is_refused_early-clause-now
 uninstallation::uninstall_many-returns-then-is_refused_early-clause-now t c =

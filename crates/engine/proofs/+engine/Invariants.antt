@@ -7,6 +7,7 @@ use Rattle.driver_model.specs.Connect.{asked, children_visited, search}
 use Rattle.driver_model.specs.Disconnect.{stop_turns}
 use Rattle.driver_model.specs.UninstallWithReconnection.{each_uninstalled}
 use Rattle.driver_model.specs.GuestRun.{run}
+use Rattle.driver_model.specs.declared.request.Remover.TheVariants.{ADriver}
 use Rattle.driver_model.specs.Levels.{level_with}
 use Rattle.engine.specs.AtLevel.{level_at, level_below}
 use Rattle.engine.proofs.+engine.Given as goal
@@ -52,6 +53,12 @@ decreases-uninstallation::uninstall l = 32 * l.room + 5
 
 abbrev pub decreases-uninstallation::uninstall_each : goal.decreases-uninstallation::uninstall_each
 decreases-uninstallation::uninstall_each l = 32 * l.room + 6
+
+abbrev pub decreases-uninstallation::uninstall_first : goal.decreases-uninstallation::uninstall_first
+decreases-uninstallation::uninstall_first l = 32 * l.room + 5
+
+abbrev pub decreases-uninstallation::uninstall_all : goal.decreases-uninstallation::uninstall_all
+decreases-uninstallation::uninstall_all l = 32 * l.room + 6
 
 abbrev pub decreases-uninstallation::uninstall_many : goal.decreases-uninstallation::uninstall_many
 decreases-uninstallation::uninstall_many l = 32 * l.room + 7
@@ -206,6 +213,17 @@ invariant-uninstallation::uninstall_each-loop-i l = record {
   rest :
       each_uninstalled plain l.settings (level_below l.settings l.room) l.scope l.remover (drop l.i-index l.interfaces) l.world.now
       ≡ each_uninstalled plain l.fn.settings (level_below l.fn.settings l.fn.room) l.fn.scope l.fn.remover l.fn.interfaces l.fn.world.now;
+  marks : l.world.marks ≡ l.fn.world.marks;
+  stacks : stacks l.world.now.soft ≡ stacks l.fn.world.now.soft;
+  units : l.world.now.hard.units ≤ l.fn.world.now.hard.units;
+  events : length l.fn.world.now.hard.events ≤ length l.world.now.hard.events;
+}
+
+abbrev pub invariant-uninstallation::uninstall_all-loop-at : goal.invariant-uninstallation::uninstall_all-loop-at
+invariant-uninstallation::uninstall_all-loop-at l = record {
+  rest :
+      each_uninstalled plain l.settings (level_below l.settings l.room) l.scope ADriver (drop l.at l.interfaces) l.world.now
+      ≡ each_uninstalled plain l.fn.settings (level_below l.fn.settings l.fn.room) l.fn.scope ADriver l.fn.interfaces l.fn.world.now;
   marks : l.world.marks ≡ l.fn.world.marks;
   stacks : stacks l.world.now.soft ≡ stacks l.fn.world.now.soft;
   units : l.world.now.hard.units ≤ l.fn.world.now.hard.units;

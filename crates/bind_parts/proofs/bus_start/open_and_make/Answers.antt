@@ -1,6 +1,5 @@
 use Rattle.std.proofs.Common.{◌≡◌, ℕ, true, false, List, sym, ap, subst, ◌∙◌}
 use Rattle.std.specs.Prelude.{Ok, Result, is_some}
-use Rattle.fw_types.specs.declared.attr.TheConstants.Attr.{BY_DRIVER}
 use Rattle.fw_types.specs.declared.status.Status.{Status}
 use Rattle.world_model.specs.World.{State, on_soft}
 use Rattle.world_model.specs.Boards.{root_bus}

@@ -1,4 +1,4 @@
-use Rattle.std.proofs.Common.{◌≡◌, ℕ, List, rules, ap, ◌∙◌}
+use Rattle.std.proofs.Common.{◌≡◌, ℕ, rules, ap, ◌∙◌}
 use Rattle.pci_model.specs.Devices.{BoardState}
 use Rattle.world_model.specs.World.{State}
 use Rattle.world_model.specs.NewChild.{child_path, has_rom, path_below}
