@@ -1,0 +1,2 @@
+pub mod MarkedRecords
+pub mod TakingBack
