@@ -12,7 +12,7 @@ use Rattle.guest_memory.specs.GuestMemory.{begins, is_of, kind_number, lie_from,
 use Rattle.guest_memory.proofs.MappingLemmas.{unmapped_takes_back_mapped}
 use Rattle.guest_memory.proofs.SegmentLemmas.{lie_from-unmapped}
 use Rattle.world_model.specs.declared.change.Change.{Change}
-use Rattle.world_model.specs.declared.change.Change.TheVariants.{SetTpl, Write, Put, Allot, Free, Install, Uninstall, Enter, Leave, DropImage, AddImage, MakeThunk, NoteChild, SetBusList}
+use Rattle.world_model.specs.declared.change.Change.TheVariants.{SetTpl, Write, Put, Allot, Free, Install, Uninstall, DropImage, AddImage, MakeThunk, NoteChild, SetBusList}
 use Rattle.world_model.specs.declared.fault.WorldFault.{WorldFault}
 use Rattle.world_model.specs.declared.fault.WorldFault.TheVariants.{NotThere}
 use Rattle.world_model.specs.declared.image.LoadedImage.{LoadedImage}
@@ -135,8 +135,6 @@ taken_emptied (Free segment) soft at lies still there =
     ap (λ (memory : List Segment). with_memory memory soft) (mapped-emptied at segment soft.memory (is-same at segment (not_twice 0 at segment soft.memory still there)))
 taken_emptied (Install handle guid made) soft at lies still there = refl
 taken_emptied (Uninstall went) soft at lies still there = refl
-taken_emptied (Enter handle guid agent controller attr before) soft at lies still there = refl
-taken_emptied (Leave gone) soft at lies still there = refl
 taken_emptied (DropImage dropped) soft at lies still there =
     let more = mapped dropped.block soft.memory in
     let order : lie_from 0 more ≡ true = ap (lie_from 0) (sym (unmapped_takes_back_mapped more dropped.segment)) ∙ lie_from-unmapped 0 (mapped dropped.segment more) dropped.segment.base still in

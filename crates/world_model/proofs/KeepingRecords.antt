@@ -1,16 +1,18 @@
 -- Entering and leaving open records leave what holds of every soft part.
-use Rattle.std.proofs.Common.{ℕ, Bool, ◌&&◌, not, nat_eq, List, Some, None}
+use Rattle.std.proofs.Common.{◌≡◌, ℕ, Bool, true, false, cond, ◌&&◌, not, nat_eq, List, [], ◌∷◌, filter, Some, None, refl, arith}
+use Rattle.std.specs.List.{list_all}
 use Rattle.record_table.specs.declared.open_record.KeyedRecord.{KeyedRecord}
 use Rattle.interface_records.specs.declared.open_record.Rec.{Rec}
 use Rattle.open_records.specs.OpenRecords.{RecordTable, is_of}
 use Rattle.open_records.specs.Adding.{added}
 use Rattle.open_records.specs.Leaving.{cut, cut_on, is_meant}
 use Rattle.open_records.proofs.LawProofs.{adding_keeps}
+use Rattle.open_records.proofs.RemovalLemmas.{filter_sound}
 use Rattle.world_model.specs.World.{Soft}
 use Rattle.fw_types.specs.declared.attr.TheConstants.Attr.{ALL_BITS, BY_CHILD_CONTROLLER, WEAK_BITS}
 use Rattle.world_model.specs.Records.{with_records}
-use Rattle.world_model.specs.Kept.{AreRecordsKept, IsKept}
-use Rattle.world_model.specs.Keeping.{AllLeavingKeeps, ChildLeavingKeeps, EnteringKeeps, LeavingKeeps, WeakDroppingKeeps}
+use Rattle.world_model.specs.Kept.{AreRecordsKept, IsKept, are_parties_live}
+use Rattle.world_model.specs.Keeping.{AllLeavingKeeps, ChildLeavingKeeps, EnteringKeeps, LeavingKeeps, LivePartiesAreKept, NoRecordsAreKept, WeakDroppingKeeps}
 use Rattle.world_model.proofs.RecordParties.{parties-added, records-filter}
 
 -- other records
@@ -23,6 +25,29 @@ kept_with soft table kept opens = record {
   records = opens;
   children = kept.children;
   ranges = kept.ranges;
+}
+
+pub none_kept : NoRecordsAreKept
+none_kept db = record {
+  sound = record { rising = refl; apart = refl; kept = refl; few = omega arith };
+  limit = refl;
+  parties = refl;
+}
+
+-- those that pass a test
+all-passing-more : (test : KeyedRecord → Bool) (one : KeyedRecord) (rest : List KeyedRecord) (passes : Bool) → test one ≡ passes → list_all test (filter test rest) ≡ true → list_all test (cond passes (one ∷ filter test rest) (filter test rest)) ≡ true
+all-passing-more test one rest true is later = rw is later
+all-passing-more test one rest false is later = later
+
+all-passing : (test : KeyedRecord → Bool) (entries : List KeyedRecord) → list_all test (filter test entries) ≡ true
+all-passing test [] = refl
+all-passing test (one ∷ rest) = all-passing-more test one rest (test one) refl (all-passing test rest)
+
+pub live_kept : LivePartiesAreKept
+live_kept db table sound limit = record {
+  sound = filter_sound (are_parties_live db) table sound;
+  limit = limit;
+  parties = all-passing (are_parties_live db) table.entries;
 }
 
 pub entering : EnteringKeeps

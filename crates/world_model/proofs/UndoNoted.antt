@@ -30,7 +30,7 @@ use Rattle.world_model.specs.Interfaces.{firmware, interface}
 use Rattle.world_model.proofs.KeepingImages.{room_of}
 use Rattle.world_model.specs.declared.bus_child.BusChild.{BusChild}
 use Rattle.world_model.specs.declared.change.Change.{Change}
-use Rattle.world_model.specs.declared.change.Change.TheVariants.{SetTpl, Write, Put, Allot, Free, Install, Uninstall, Enter, Leave, DropImage, AddImage, MakeThunk, NoteChild, SetBusList}
+use Rattle.world_model.specs.declared.change.Change.TheVariants.{SetTpl, Write, Put, Allot, Free, Install, Uninstall, DropImage, AddImage, MakeThunk, NoteChild, SetBusList}
 use Rattle.world_model.specs.declared.stack_levels.StackLevels.{StackLevels}
 use Rattle.world_model.specs.declared.thunk.Thunk.{Thunk}
 use Rattle.world_model.specs.World.{Soft, with_memory}
@@ -281,8 +281,6 @@ beside p (Free segment) soft lies passes =
     ap (λ (memory : List Segment). with_memory memory soft) (sym (at-mapped p 0 segment soft.memory (lies_rise 0 soft.memory lies) (and_parts (p segment.base) true passes).0))
 beside p (Install handle guid made) soft lies passes = refl
 beside p (Uninstall went) soft lies passes = refl
-beside p (Enter handle guid agent controller attr before) soft lies passes = refl
-beside p (Leave gone) soft lies passes = refl
 beside p (DropImage dropped) soft lies passes =
     let both = and_parts (p dropped.segment.base) (list_all p (dropped.block.base ∷ [])) passes in
     let last = and_parts (p dropped.block.base) true both.1 in
@@ -308,9 +306,8 @@ taken_beside_stacks change soft levels kept high =
     let are = later-are_levels levels in
     beside (stays later) change soft kept.memory.apart (list_all-mono (nat_le FIRST_IMAGE) (stays later) (addresses_in change) (λ base at. high-stays later base are at) high)
 
--- the stacks that are left out are no part of the database and of the records
-fits_still : (change : Change) (after : Soft) (levels : StackLevels) → Fits change after.database after.records
-    → let left = without_stacks (later_levels levels) after in Fits change left.database left.records
+-- the stacks that are left out are no part of the database
+fits_still : (change : Change) (after : Soft) (levels : StackLevels) → Fits change after.database → let left = without_stacks (later_levels levels) after in Fits change left.database
 fits_still change after levels fits = fits
 
 pub noted_beside_stacks : NotedBesideStacks

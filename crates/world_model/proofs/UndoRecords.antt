@@ -1,4 +1,4 @@
--- Changes of the records, and those that take interfaces with their records, made and taken back.
+-- Changes that take interfaces, made and taken back, if there are no open records.
 use Rattle.std.proofs.Common.{◌≡◌, ℕ, Bool, true, false, cond, nat_eq, nat_le, List, [], ◌∷◌, filter, find, Option, Some, None, refl, sym, ap, ◌∙◌, arith}
 use Rattle.std.specs.Prelude.{Ok, Result, bytes_eq, insert, option_map}
 use Rattle.std.specs.List.{position_or_len}
@@ -12,15 +12,12 @@ use Rattle.guest_memory.specs.declared.segment.Segment.{Segment}
 use Rattle.guest_memory.specs.GuestMemory.{beginning_at, lie_from, mapped, unmapped}
 use Rattle.guest_memory.proofs.MappingLemmas.{mapped_takes_back_unmapped}
 use Rattle.guest_memory.proofs.SegmentLemmas.{lie_from-unmapped}
-use Rattle.handle_db.specs.Database.{Database}
+use Rattle.handle_db.specs.Database.{Database, is_live}
 use Rattle.handle_db.specs.Removing.{remove_answer, removed}
 use Rattle.handle_db.specs.Undoing.{remove_undone}
 use Rattle.handle_db.specs.declared.refusal.Removed.{Removed}
 use Rattle.handle_db.proofs.RemovalBack.{undone as removal_undone}
-use Rattle.open_records.specs.declared.undoing.Gone.{Gone}
 use Rattle.open_records.specs.OpenRecords.{RecordTable}
-use Rattle.open_records.specs.PuttingBack.{put_back}
-use Rattle.open_records.proofs.CountingBackLemmas.{counting_back}
 use Rattle.world_model.specs.declared.bus_child.BusChild.{BusChild}
 use Rattle.world_model.specs.declared.change.Change.TheVariants.{DropImage}
 use Rattle.world_model.specs.declared.image.LoadedImage.{LoadedImage}
@@ -29,10 +26,10 @@ use Rattle.world_model.specs.BusChildren.{children_left, is_child, without_child
 use Rattle.world_model.specs.Images.{image_of, without_image, without_loaded}
 use Rattle.world_model.specs.Kept.{IsKept, are_apart}
 use Rattle.world_model.specs.Marks.{stacks}
-use Rattle.world_model.specs.Records.{records_removed, with_records}
+use Rattle.world_model.specs.Records.{no_records, records_removed}
 use Rattle.world_model.specs.Thunks.{enters, without_thunks}
 use Rattle.world_model.specs.Undo.{taken_back, with_child, with_thunks}
-use Rattle.world_model.specs.UndoLaws.{DropImageIsNoted, EnterIsNoted, IsNoted, LeaveIsNoted, UninstallIsNoted, PutsBack, child_gone, dropped_of, is_of_handle}
+use Rattle.world_model.specs.UndoLaws.{DropImageIsNoted, IsNoted, UninstallIsNoted, child_gone, dropped_of, is_of_handle}
 use Rattle.world_model.specs.World.{Soft}
 use Rattle.world_model.proofs.ImageLists.{all_between, found_passes, is_between}
 use Rattle.world_model.proofs.StackLaws.{dropping}
@@ -41,25 +38,15 @@ use Rattle.world_model.proofs.UndoNoted.{begins-base}
 
 -- ---- records
 
-pub enter_is_noted : EnterIsNoted
-unfolding taken_back
-enter_is_noted soft handle guid agent controller attr kept = record {
-  back = ap (λ (records : RecordTable). with_records records soft) (counting_back soft.records kept.records.sound handle guid agent controller attr);
-  stacks = refl;
-  rises = omega arith;
-  beside = refl;
-  fits = tt;
-}
+-- ---- no records
 
-pub leave_is_noted : LeaveIsNoted
-unfolding taken_back
-leave_is_noted soft choice gone kept puts_back = record {
-  back = ap (λ (records : RecordTable). with_records records soft) puts_back.back;
-  stacks = refl;
-  rises = omega arith;
-  beside = refl;
-  fits = puts_back.fit;
-}
+either_none : (live : Bool) → cond live no_records no_records ≡ no_records
+either_none true = refl
+either_none false = refl
+
+-- from no records none is removed
+pub none_removed : (handle : ℕ) (guid : List ℕ) (db : Database) (records : RecordTable) → records ≡ no_records → records_removed handle guid db records ≡ records
+none_removed handle guid db records none = ap (records_removed handle guid db) none ∙ either_none (is_live handle db) ∙ sym none
 
 -- ---- interfaces
 
@@ -79,21 +66,21 @@ children_back handle guid children apart = children_back-more handle (bytes_eq g
 
 pub uninstall_is_noted : UninstallIsNoted
 unfolding taken_back
-uninstall_is_noted soft handle guid r gone kept answer puts_back =
+uninstall_is_noted soft handle guid r kept none answer =
     let undone = removal_undone handle guid r soft.database kept.database.sound answer in
     let after = removed handle guid soft.database in
     let left = children_left handle guid soft.bus_children in
     let child = child_gone handle guid soft.bus_children in
-    let records = put_back gone (records_removed handle guid after soft.records) in
+    let records = records_removed handle guid after soft.records in
     record {
       back =
           ap (λ (db : Database). record soft { database = db; records = records; bus_children = with_child child left }) undone.1
-          ∙ ap (λ (table : RecordTable). record soft { records = table; bus_children = with_child child left }) puts_back.back
+          ∙ ap (λ (table : RecordTable). record soft { records = table; bus_children = with_child child left }) (none_removed handle guid after soft.records none)
           ∙ ap (λ (children : List BusChild). record soft { bus_children = children }) (children_back handle guid soft.bus_children kept.children.apart);
       stacks = refl;
       rises = omega arith;
       beside = refl;
-      fits = (undone.0, puts_back.fit);
+      fits = undone.0;
     }
 
 -- ---- images
@@ -114,12 +101,12 @@ memory_back segments base block_at segment block lies found next =
     ap (mapped segment) (mapped_takes_back_unmapped (unmapped segments base) block_at block (lie_from-unmapped 0 segments base lies) next)
     ∙ mapped_takes_back_unmapped segments base segment lies found
 
-pub image_gone : (soft : Soft) (handle : ℕ) (image : LoadedImage) (segment block : Segment) (r : Removed) (gone : List Gone) → IsKept soft → image_of handle soft.images ≡ Some image
+pub image_gone : (soft : Soft) (handle : ℕ) (image : LoadedImage) (segment block : Segment) (r : Removed) → IsKept soft → soft.records ≡ no_records → image_of handle soft.images ≡ Some image
     → beginning_at soft.memory image.base ≡ Ok segment → beginning_at (unmapped soft.memory image.base) image.block ≡ Ok block
-    → remove_answer image.handle (known_guid LoadedImageProtocol) soft.database ≡ Ok r → PutsBack gone soft (without_loaded (Some image) soft)
-    → IsNoted (DropImage (dropped_of image segment block r gone soft)) soft (without_loaded (Some image) soft)
+    → remove_answer image.handle (known_guid LoadedImageProtocol) soft.database ≡ Ok r
+    → IsNoted (DropImage (dropped_of image segment block r soft)) soft (without_loaded (Some image) soft)
 unfolding taken_back
-image_gone soft handle image segment block r gone kept is found next answer puts_back =
+image_gone soft handle image segment block r kept none is found next answer =
     let guid = known_guid LoadedImageProtocol in
     let undone = removal_undone image.handle guid r soft.database kept.database.sound answer in
     let after = removed image.handle guid soft.database in
@@ -139,20 +126,20 @@ image_gone soft handle image segment block r gone kept is found next answer puts
           ap (λ (entered : Result Segment MemRefusal). record soft {
             memory = mapped segment (mapped block (unmapped (unmapped soft.memory image.base) image.block));
             database = remove_undone image.handle guid r after;
-            records = put_back gone (records_removed image.handle guid after soft.records);
+            records = records_removed image.handle guid after soft.records;
             images = insert (without_image image.handle soft.images) place image;
             thunks = with_thunks thunks (without_thunks entered soft.thunks);
           }) found
           ∙ ap (λ (memory : List Segment). record soft {
             memory = memory;
             database = remove_undone image.handle guid r after;
-            records = put_back gone (records_removed image.handle guid after soft.records);
+            records = records_removed image.handle guid after soft.records;
             images = insert (without_image image.handle soft.images) place image;
             thunks = with_thunks thunks (without_thunks (Ok segment) soft.thunks);
           }) (memory_back soft.memory image.base image.block segment block kept.memory.apart found next)
           ∙ ap (λ (db : Database). record soft {
             database = db;
-            records = put_back gone (records_removed image.handle guid after soft.records);
+            records = records_removed image.handle guid after soft.records;
             images = insert (without_image image.handle soft.images) place image;
             thunks = with_thunks thunks (without_thunks (Ok segment) soft.thunks);
           }) undone.1
@@ -160,7 +147,7 @@ image_gone soft handle image segment block r gone kept is found next answer puts
             records = table;
             images = insert (without_image image.handle soft.images) place image;
             thunks = with_thunks thunks (without_thunks (Ok segment) soft.thunks);
-          }) puts_back.back
+          }) (none_removed image.handle guid after soft.records none)
           ∙ ap (λ (images : List LoadedImage). record soft {
             images = images;
             thunks = with_thunks thunks (without_thunks (Ok segment) soft.thunks);
@@ -169,9 +156,9 @@ image_gone soft handle image segment block r gone kept is found next answer puts
       stacks = ap (λ (found : Option LoadedImage). stacks (without_loaded found soft)) (sym is) ∙ dropping soft handle kept;
       rises = omega arith;
       beside = rw (base_high, block_high) refl;
-      fits = (undone.0, puts_back.fit);
+      fits = undone.0;
     }
 
 pub drop_image_is_noted : DropImageIsNoted
-drop_image_is_noted soft handle image segment block r gone kept is found next answer puts_back =
-    rw is (image_gone soft handle image segment block r gone kept is found next answer (rw is at puts_back))
+drop_image_is_noted soft handle image segment block r kept none is found next answer =
+    rw is (image_gone soft handle image segment block r kept none is found next answer)

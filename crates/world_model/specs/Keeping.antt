@@ -4,22 +4,23 @@ use Rattle.guest_memory.specs.declared.segment.SegKind.{SegKind}
 use Rattle.guest_memory.specs.Segment.{is_block}
 use Rattle.guest_memory.specs.GuestMemory.{is_writable_range, map_answer, mapped, put_bytes, write_answer, written}
 use Rattle.handle_db.specs.declared.handle_entry.Interface.{Interface}
-use Rattle.handle_db.specs.Database.{has, is_live}
+use Rattle.handle_db.specs.Database.{Database, has, is_live}
 use Rattle.fw_types.specs.Attr.{is_legal}
-use Rattle.open_records.specs.OpenRecords.{records_of}
+use Rattle.open_records.specs.OpenRecords.{IsSound as RecordsAreSound, RecordTable, records_of}
+use Rattle.open_records.specs.Parties.{with_live_parties}
 use Rattle.open_records.specs.Verdicts.{judge, may_enter}
 use Rattle.open_records.specs.Adding.{is_full}
 use Rattle.world_model.specs.World.{Soft, with_memory, with_tpl}
 use Rattle.world_model.specs.Blocks.{block_added, block_freed, block_segment, free_answer, is_block_full}
-use Rattle.world_model.specs.Records.{all_left, child_left, is_none_or_live, record_entered, records_left, weak_dropped}
+use Rattle.world_model.specs.Records.{all_left, child_left, is_none_or_live, no_records, record_entered, records_left, weak_dropped, with_records}
 use Rattle.world_model.specs.Interfaces.{install_answer, interface_added, interface_removed, is_lasting}
 use Rattle.world_model.specs.Thunks.{thunk_answer, thunk_made}
 use Rattle.world_model.specs.Images.{BlockContents, image_added, image_at, image_dropped, image_segment, is_image_full, image_block_segment}
 use Rattle.world_model.specs.Stacks.{has_stack, list_segment, stack_popped, stack_pushed, stack_segment}
 use Rattle.world_model.specs.ImageSweep.{image_swept}
-use Rattle.world_model.specs.Kept.{IsKept, has_pci_io}
+use Rattle.world_model.specs.Kept.{AreRecordsKept, IsKept, has_pci_io}
 use Rattle.world_model.specs.BusChildren.{child_function, child_noted, with_bus_list}
-use Rattle.fw_types.specs.declared.limits.TheConstants.{MOST_LEVELS, MOST_LISTED}
+use Rattle.fw_types.specs.declared.limits.TheConstants.{MOST_LEVELS, MOST_LISTED, MOST_RECORDS}
 use Rattle.pci_model.specs.declared.numbers.TheConstants.{MOST_ROOTS}
 use Rattle.world_model.specs.Opening.{opening_soft}
 
@@ -109,6 +110,20 @@ DroppingKeeps = (soft : Soft) (handle : ℕ) → IsKept soft → IsKept (image_d
 
 abbrev pub SweepingKeeps : Type 0
 SweepingKeeps = (soft : Soft) (image : ℕ) → IsKept soft → IsKept (image_swept image soft)
+
+-- ---- open records
+
+-- other records of handles and interfaces that are there
+abbrev pub RecordsKeep : Type 0
+RecordsKeep = (soft : Soft) (table : RecordTable) → IsKept soft → AreRecordsKept soft.database table → IsKept (with_records table soft)
+
+-- if there are no records, they are kept, whatever handles and interfaces there are
+abbrev pub NoRecordsAreKept : Type 0
+NoRecordsAreKept = (db : Database) → AreRecordsKept db no_records
+
+-- and so are sound records without those of handles and interfaces that are not there
+abbrev pub LivePartiesAreKept : Type 0
+LivePartiesAreKept = (db : Database) (table : RecordTable) → RecordsAreSound table → table.limit ≡ MOST_RECORDS → AreRecordsKept db (with_live_parties db table)
 
 -- ---- thunks
 

@@ -9,13 +9,14 @@ use Rattle.pci_model.specs.BoardLines.{roots}
 use Rattle.pci_model.specs.Devices.{BoardState}
 use Rattle.handle_db.specs.Database.{Database}
 use Rattle.handle_db.specs.Installing.{new_entry}
-use Rattle.fw_types.specs.declared.limits.TheConstants.{MOST_HANDLES, MOST_RECORDS}
+use Rattle.fw_types.specs.declared.limits.TheConstants.{MOST_HANDLES}
 use Rattle.guest_memory.specs.declared.address_map.TheConstants.{BUS_BINDING, FIRMWARE_IMAGE, FIRST_BLOCK, FIRST_IMAGE}
 use Rattle.guest_memory.specs.declared.segment.SegKind.TheVariants.{Firmware}
 use Rattle.world_model.specs.declared.tpl.TheConstants.{TPL_APPLICATION}
 use Rattle.world_model.specs.World.{WorldView, Soft}
 use Rattle.world_model.specs.Blocks.{block_added}
 use Rattle.world_model.specs.Interfaces.{bus_driver, firmware, interface, interface_added}
+use Rattle.world_model.specs.Records.{no_records}
 use Rattle.world_model.specs.Tables.{tables}
 
 -- handle 1 with the loaded image of the firmware, and handle 2 with the binding of the bus driver
@@ -34,7 +35,7 @@ abbrev pub firmware_soft : (functions : ℕ) → Soft
 firmware_soft functions = record {
   memory = tables;
   database = firmware_database;
-  records = record { entries = []; limit = MOST_RECORDS };
+  records = no_records;
   images = [];
   thunks = [];
   bus_children = [];

@@ -1,13 +1,18 @@
 -- The open records of the world (UEFI 2.8, 7.3: OpenProtocol, CloseProtocol): which agent has which
 -- interface open, for which controller and how.
-use Rattle.std.specs.Prelude.{ℕ, ◌-◌, List, length, Some, None, if◌then◌else◌}
+use Rattle.std.specs.Prelude.{ℕ, List, [], Some, None, if◌then◌else◌}
 use Rattle.fw_types.specs.declared.attr.TheConstants.Attr.{ALL_BITS, BY_CHILD_CONTROLLER, WEAK_BITS}
+use Rattle.fw_types.specs.declared.limits.TheConstants.{MOST_RECORDS}
 use Rattle.handle_db.specs.Database.{Database, is_live}
 use Rattle.open_records.specs.OpenRecords.{RecordTable}
 use Rattle.open_records.specs.Adding.{added}
 use Rattle.open_records.specs.Leaving.{cut, cut_on, is_meant, swept}
 pub use Rattle.open_records.specs.Parties.{is_none_or_live}
 use Rattle.world_model.specs.World.{Soft}
+
+-- no records
+abbrev pub no_records : RecordTable
+no_records = record { entries = []; limit = MOST_RECORDS }
 
 -- a change of the records alone
 abbrev pub with_records : RecordTable → Soft → Soft
@@ -36,10 +41,6 @@ child_left handle agent child soft = with_records (cut_on handle (is_meant (Some
 -- the records that keep nobody out are removed from an interface
 abbrev pub weak_dropped : ℕ → List ℕ → Soft → Soft
 weak_dropped handle guid soft = with_records (cut handle guid (is_meant None None WEAK_BITS) soft.records) soft
-
--- how many records a change removed
-abbrev pub removed_count : Soft → Soft → ℕ
-removed_count before after = length before.records.entries - length after.records.entries
 
 -- ---- interfaces that are removed
 

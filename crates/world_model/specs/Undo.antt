@@ -1,5 +1,6 @@
 -- Taking changes back: the soft part before a change, from the soft part after it and from what was noted of the
--- change; and what a mark keeps, from the changes that were noted since.
+-- change; and what a mark keeps, from the changes that were noted since. Open records stay as they are: they have a log
+-- of their own.
 use Rattle.std.specs.Prelude.{◌≡◌, ℕ, ◌-◌, ◌<◌, ◌≤◌, Bool, true, false, ◌||◌, not, nat_eq, List, [], ◌∷◌, insert, length, nat_lt, take, filter, Option, Some, None, slice_index_or, slice_set, if◌then◌else◌}
 use Rattle.std.specs.List.{list_any, range_with_len}
 use Rattle.fw_types.specs.declared.limits.TheConstants.{MOST_LEVELS}
@@ -8,14 +9,12 @@ use Rattle.guest_memory.specs.GuestMemory.{is_writable_range, mapped, put_bytes,
 use Rattle.fw_types.specs.Guid.{known_guid}
 use Rattle.fw_types.specs.declared.guid.Known.TheVariants.{LoadedImage as LoadedImageProtocol}
 use Rattle.handle_db.specs.Undoing.{install_undone, remove_undone}
-use Rattle.open_records.specs.PuttingBack.{count_set, put_back}
 use Rattle.world_model.specs.declared.change.Change.{Change}
-use Rattle.world_model.specs.declared.change.Change.TheVariants.{SetTpl, Write, Put, Allot, Free, Install, Uninstall, Enter, Leave, DropImage, AddImage, MakeThunk, NoteChild, SetBusList}
+use Rattle.world_model.specs.declared.change.Change.TheVariants.{SetTpl, Write, Put, Allot, Free, Install, Uninstall, DropImage, AddImage, MakeThunk, NoteChild, SetBusList}
 use Rattle.world_model.specs.declared.bus_child.BusChild.{BusChild}
 use Rattle.world_model.specs.declared.thunk.Thunk.{Thunk}
 use Rattle.world_model.specs.declared.stack_levels.StackLevels.{StackLevels}
 use Rattle.world_model.specs.World.{Soft, with_memory, with_tpl}
-use Rattle.world_model.specs.Records.{with_records}
 use Rattle.world_model.specs.Stacks.{has_stack, list_base, stack_base}
 
 -- ---- one change
@@ -54,15 +53,11 @@ taken_back (Free segment) soft = with_memory (mapped segment soft.memory) soft
 taken_back (Install handle guid made) soft = record soft { database = install_undone handle guid made soft.database }
 taken_back (Uninstall went) soft = record soft {
   database = remove_undone went.handle went.guid went.removed soft.database;
-  records = put_back went.gone soft.records;
   bus_children = with_child went.child soft.bus_children;
 }
-taken_back (Enter handle guid agent controller attr before) soft = with_records (count_set handle guid agent controller attr before soft.records) soft
-taken_back (Leave gone) soft = with_records (put_back gone soft.records) soft
 taken_back (DropImage dropped) soft = record soft {
   memory = mapped dropped.segment (mapped dropped.block soft.memory);
   database = remove_undone dropped.image.handle (known_guid LoadedImageProtocol) dropped.removed soft.database;
-  records = put_back dropped.gone soft.records;
   images = insert soft.images dropped.place dropped.image;
   thunks = with_thunks dropped.thunks soft.thunks;
 }

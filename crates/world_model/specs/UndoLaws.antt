@@ -14,17 +14,13 @@ use Rattle.handle_db.specs.declared.handle_entry.Interface.{Interface}
 use Rattle.handle_db.specs.declared.refusal.Removed.{Removed}
 use Rattle.handle_db.specs.Database.{Database}
 use Rattle.handle_db.specs.Removing.{remove_answer}
-use Rattle.open_records.specs.declared.undoing.Choice.{Choice}
-use Rattle.open_records.specs.declared.undoing.Gone.{Gone}
-use Rattle.open_records.specs.OpenRecords.{RecordTable}
-use Rattle.open_records.specs.PuttingBack.{AreFitting, count_of, picks, put_back, without_passing}
 use Rattle.world_model.specs.declared.bus_child.BusChild.{BusChild}
 use Rattle.world_model.specs.declared.change.DroppedImage.{DroppedImage}
 use Rattle.world_model.specs.declared.image.LoadedImage.{LoadedImage}
-use Rattle.world_model.specs.Records.{record_entered, with_records}
+use Rattle.world_model.specs.Records.{no_records}
 use Rattle.handle_db.specs.Undoing.{HasRoomFor, IsInstalledLast}
 use Rattle.world_model.specs.declared.change.Change.{Change}
-use Rattle.world_model.specs.declared.change.Change.TheVariants.{SetTpl, Write, Put, Allot, Free, Install, Uninstall, Enter, Leave, DropImage, AddImage, MakeThunk, NoteChild, SetBusList}
+use Rattle.world_model.specs.declared.change.Change.TheVariants.{SetTpl, Write, Put, Allot, Free, Install, Uninstall, DropImage, AddImage, MakeThunk, NoteChild, SetBusList}
 use Rattle.world_model.specs.declared.stack_levels.StackLevels.{StackLevels}
 use Rattle.world_model.specs.World.{Soft, with_memory, with_tpl}
 use Rattle.world_model.specs.Blocks.{block_added, block_freed, free_answer}
@@ -48,30 +44,26 @@ addresses_in (Allot at) = at ∷ []
 addresses_in (Free segment) = segment.base ∷ []
 addresses_in (Install handle guid made) = []
 addresses_in (Uninstall went) = []
-addresses_in (Enter handle guid agent controller attr before) = []
-addresses_in (Leave gone) = []
 addresses_in (DropImage dropped) = dropped.segment.base ∷ dropped.block.base ∷ []
 addresses_in (AddImage image) = image.base ∷ image.block ∷ []
 addresses_in MakeThunk = []
 addresses_in (NoteChild count) = []
 addresses_in (SetBusList function before) = []
 
--- the database and the open records are those from which a change can be taken back
-abbrev pub Fits : Change → Database → RecordTable → Type 0
-Fits (SetTpl before) db records = Unit {0}
-Fits (Write at n before) db records = Unit {0}
-Fits (Put at before) db records = Unit {0}
-Fits (Allot at) db records = Unit {0}
-Fits (Free segment) db records = Unit {0}
-Fits (Install handle guid made) db records = IsInstalledLast handle guid made db
-Fits (Uninstall went) db records = HasRoomFor went.handle went.guid went.removed db × AreFitting went.gone records.entries
-Fits (Enter handle guid agent controller attr before) db records = Unit {0}
-Fits (Leave gone) db records = AreFitting gone records.entries
-Fits (DropImage dropped) db records = HasRoomFor dropped.image.handle (known_guid LoadedImageProtocol) dropped.removed db × AreFitting dropped.gone records.entries
-Fits (AddImage image) db records = IsInstalledLast image.handle (known_guid LoadedImageProtocol) true db
-Fits MakeThunk db records = Unit {0}
-Fits (NoteChild count) db records = Unit {0}
-Fits (SetBusList function before) db records = Unit {0}
+-- the database is one from which a change can be taken back
+abbrev pub Fits : Change → Database → Type 0
+Fits (SetTpl before) db = Unit {0}
+Fits (Write at n before) db = Unit {0}
+Fits (Put at before) db = Unit {0}
+Fits (Allot at) db = Unit {0}
+Fits (Free segment) db = Unit {0}
+Fits (Install handle guid made) db = IsInstalledLast handle guid made db
+Fits (Uninstall went) db = HasRoomFor went.handle went.guid went.removed db
+Fits (DropImage dropped) db = HasRoomFor dropped.image.handle (known_guid LoadedImageProtocol) dropped.removed db
+Fits (AddImage image) db = IsInstalledLast image.handle (known_guid LoadedImageProtocol) true db
+Fits MakeThunk db = Unit {0}
+Fits (NoteChild count) db = Unit {0}
+Fits (SetBusList function before) db = Unit {0}
 
 -- a change from one soft part to another was noted: taken back, it leaves the one before; it has nothing to do with stacks;
 -- the address of the next block does not fall
@@ -79,7 +71,7 @@ pub record IsNoted (change : Change) (before after : Soft) : Type 0 where
   pub back : taken_back change after ≡ before
   pub stacks : stacks after ≡ stacks before
   pub rises : before.next_block ≤ after.next_block
-  pub fits : Fits change after.database after.records
+  pub fits : Fits change after.database
   pub beside : list_all (nat_le FIRST_IMAGE) (addresses_in change) ≡ true
 
 -- a change can be taken back: what holds of every soft part holds of the one before, which has the same stacks; the address
@@ -88,7 +80,7 @@ pub record CanTakeBack (change : Change) (soft : Soft) : Type 0 where
   pub kept : IsKept (taken_back change soft)
   pub stacks : stacks (taken_back change soft) ≡ stacks soft
   pub rises : (taken_back change soft).next_block ≤ soft.next_block
-  pub fits : Fits change soft.database soft.records
+  pub fits : Fits change soft.database
   pub beside : list_all (nat_le FIRST_IMAGE) (addresses_in change) ≡ true
 
 -- some changes can be taken back one after another, the last of which comes first
@@ -97,6 +89,8 @@ CanUndo [] soft = Unit {0}
 CanUndo (change ∷ changes) soft = CanTakeBack change soft × CanUndo changes (taken_back change soft)
 
 -- ---- each change, taken back
+--
+-- A change that removes open records is taken back only if there are none: they have a log of their own.
 
 abbrev pub TplIsNoted : Type 0
 TplIsNoted = (soft : Soft) (tpl : ℕ) → IsNoted (SetTpl soft.tpl) soft (with_tpl tpl soft)
@@ -131,49 +125,32 @@ child_gone handle guid children =
     then option_map (λ (child : BusChild). (position_or_len (is_child handle) children, child)) (find (is_child handle) children)
     else None
 
--- if the open records that were removed are put back into those that a change left, the result is those that were there
--- before it; and they fit those that it left
-pub record PutsBack (gone : List Gone) (before after : Soft) : Type 0 where
-  pub back : put_back gone after.records ≡ before.records
-  pub fit : AreFitting gone after.records.entries
-
 abbrev pub UninstallIsNoted : Type 0
 UninstallIsNoted =
-    (soft : Soft) (handle : ℕ) (guid : List ℕ) (removed : Removed) (gone : List Gone) → IsKept soft → remove_answer handle guid soft.database ≡ Ok removed → PutsBack gone soft (interface_removed handle guid soft)
-    → IsNoted (Uninstall (record { handle = handle; guid = guid; removed = removed; gone = gone; child = child_gone handle guid soft.bus_children })) soft (interface_removed handle guid soft)
-
-abbrev pub EnterIsNoted : Type 0
-EnterIsNoted =
-    (soft : Soft) (handle : ℕ) (guid : List ℕ) (agent controller attr : ℕ) → IsKept soft
-    → IsNoted (Enter handle guid agent controller attr (count_of handle guid agent controller attr soft.records)) soft (record_entered handle guid agent controller attr soft)
-
-abbrev pub LeaveIsNoted : Type 0
-LeaveIsNoted =
-    (soft : Soft) (choice : Choice) (gone : List Gone) → IsKept soft → PutsBack gone soft (with_records (without_passing (picks choice) soft.records) soft)
-    → IsNoted (Leave gone) soft (with_records (without_passing (picks choice) soft.records) soft)
+    (soft : Soft) (handle : ℕ) (guid : List ℕ) (removed : Removed) → IsKept soft → soft.records ≡ no_records → remove_answer handle guid soft.database ≡ Ok removed
+    → IsNoted (Uninstall (record { handle = handle; guid = guid; removed = removed; child = child_gone handle guid soft.bus_children })) soft (interface_removed handle guid soft)
 
 -- whether an image is that of a handle
 abbrev pub is_of_handle : (handle : ℕ) → LoadedImage → Bool
 is_of_handle handle image = nat_eq image.handle handle
 
 -- an image that is dropped, with what belongs to it
-abbrev pub dropped_of : LoadedImage → Segment → Segment → Removed → List Gone → Soft → DroppedImage
-dropped_of image segment block removed gone soft = record {
+abbrev pub dropped_of : LoadedImage → Segment → Segment → Removed → Soft → DroppedImage
+dropped_of image segment block removed soft = record {
   image = image;
   place = position_or_len (is_of_handle image.handle) soft.images;
   segment = segment;
   block = block;
   removed = removed;
-  gone = gone;
   thunks = filter (enters segment) soft.thunks;
 }
 
 abbrev pub DropImageIsNoted : Type 0
 DropImageIsNoted =
-    (soft : Soft) (handle : ℕ) (image : LoadedImage) (segment block : Segment) (removed : Removed) (gone : List Gone) → IsKept soft → image_of handle soft.images ≡ Some image
+    (soft : Soft) (handle : ℕ) (image : LoadedImage) (segment block : Segment) (removed : Removed) → IsKept soft → soft.records ≡ no_records → image_of handle soft.images ≡ Some image
     → beginning_at soft.memory image.base ≡ Ok segment → beginning_at (unmapped soft.memory image.base) image.block ≡ Ok block
-    → remove_answer image.handle (known_guid LoadedImageProtocol) soft.database ≡ Ok removed → PutsBack gone soft (image_dropped handle soft)
-    → IsNoted (DropImage (dropped_of image segment block removed gone soft)) soft (image_dropped handle soft)
+    → remove_answer image.handle (known_guid LoadedImageProtocol) soft.database ≡ Ok removed
+    → IsNoted (DropImage (dropped_of image segment block removed soft)) soft (image_dropped handle soft)
 
 abbrev pub AddImageIsNoted : Type 0
 AddImageIsNoted =

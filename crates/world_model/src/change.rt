@@ -2,12 +2,11 @@ use crate::boxed::Boxed;
 use crate::bus_child::BusChild;
 use crate::image::LoadedImage;
 use crate::thunk::Thunk;
-use fw_types::{Attr, Guid, Handle, Rows};
+use fw_types::{Guid, Handle, Rows};
 use guest_memory::Segment;
 use handle_db::Removed;
-use open_records::Gone;
 
-/// An interface that was uninstalled, with what was removed with it.
+/// An interface that was uninstalled, with what was removed with it besides open records.
 #[derive(Drop)]
 pub struct Uninstalled {
     /// Its handle.
@@ -16,13 +15,11 @@ pub struct Uninstalled {
     pub guid: Guid,
     /// What it was.
     pub removed: Removed,
-    /// The open records that were removed with it.
-    pub gone: Rows<Gone>,
     /// The child of the bus that was removed with it, and its place among the others.
     pub child: Option<(usize, BusChild)>,
 }
 
-/// An image that was dropped, with what belonged to it.
+/// An image that was dropped, with what belonged to it besides open records.
 #[derive(Drop)]
 pub struct DroppedImage {
     /// The image.
@@ -35,14 +32,12 @@ pub struct DroppedImage {
     pub block: Segment,
     /// Its loaded image interface.
     pub removed: Removed,
-    /// The open records that were removed with it.
-    pub gone: Rows<Gone>,
     /// The thunks that entered it.
     pub thunks: Rows<Thunk>,
 }
 
-/// A change of the soft part that was made, with what is needed to take it back. The two that need
-/// most are boxed, since a log uses as much memory for each change as for the largest.
+/// A change of the soft part without the open records that was made, with what is needed to take it back. The
+/// two that need most are boxed, since a log uses as much memory for each change as for the largest.
 #[derive(Drop)]
 pub enum Change {
     /// The task priority level was set.
@@ -89,26 +84,6 @@ pub enum Change {
     Uninstall {
         /// What was removed.
         went: Boxed<Uninstalled>,
-    },
-    /// An open was entered.
-    Enter {
-        /// The handle of the interface.
-        handle: Handle,
-        /// Its protocol.
-        guid: Guid,
-        /// The agent.
-        agent: u64,
-        /// The controller, or 0.
-        controller: u64,
-        /// How it is open.
-        attr: Attr,
-        /// How many opens its record counted before; 0 if there was none.
-        before: u32,
-    },
-    /// Open records were removed.
-    Leave {
-        /// Those that were removed.
-        gone: Rows<Gone>,
     },
     /// An image was dropped.
     DropImage {

@@ -19,8 +19,8 @@ ghost use Rattle.world_model.specs.Marks.{CommitSpendsMark, RollbackPutsBack};
 ghost use Rattle.world_model.specs.NestedLaws.{AllLeavingInView, ChildLeavingInView, EnteringInView, InstallingInView, LeavingInView, NewHandleInView, UninstallingInView, WeakDroppingInView};
 ghost use Rattle.world_model.specs.StackLaws.{AddingKeepsStacks, AllottingKeepsStacks, DroppingKeepsStacks, FreeingKeepsStacks, PoppingUndoesPush, PoppingTakesStack, PushedStackIsThere, PushingAddsStack, PuttingKeepsStacks, StackOfLevel, SweepingKeepsStacks, WritingKeepsStacks};
 ghost use Rattle.world_model.specs.BlockBytes.{EmptiedBesideStacks, EmptyFreeIsNoted, EmptyingKeeps, UndoneWithoutBytes};
-ghost use Rattle.world_model.specs.UndoLaws.{AddImageIsNoted, AllotIsNoted, BusListIsNoted, ChildIsNoted, DropImageIsNoted, EnterIsNoted, FreeIsNoted, InstallIsNoted, LeaveIsNoted, LeftStackIsThere, NoneIsLeftOut, NotedBesideStacks, PoppedIsLeftOut, PushedIsLeftOut, PutIsNoted, TakenBesideStacks, ThunkIsNoted, TplIsNoted, UndoingLeavesStacks, UninstallIsNoted, WriteIsNoted};
-ghost use Rattle.world_model.specs.Keeping.{AddingKeeps, AllLeavingKeeps, AllottingKeeps, BlockFits, ChildLeavingKeeps, DroppingKeeps, EnteringKeeps, FreeingKeeps, ImageFits, InstallingKeeps, LeavingKeeps, ListFits, MakingKeeps, OpeningIsKept, PoppingKeeps, PushingKeeps, PuttingKeeps, StackFits, ImageBlockFits, SweepingKeeps, TplKeeps, UninstallingKeeps, WeakDroppingKeeps, WritingKeeps, BusListKeeps, NotingKeeps};
+ghost use Rattle.world_model.specs.UndoLaws.{AddImageIsNoted, AllotIsNoted, BusListIsNoted, ChildIsNoted, DropImageIsNoted, FreeIsNoted, InstallIsNoted, LeftStackIsThere, NoneIsLeftOut, NotedBesideStacks, PoppedIsLeftOut, PushedIsLeftOut, PutIsNoted, TakenBesideStacks, ThunkIsNoted, TplIsNoted, UndoingLeavesStacks, UninstallIsNoted, WriteIsNoted};
+ghost use Rattle.world_model.specs.Keeping.{AddingKeeps, AllLeavingKeeps, AllottingKeeps, BlockFits, ChildLeavingKeeps, DroppingKeeps, EnteringKeeps, FreeingKeeps, ImageFits, InstallingKeeps, LeavingKeeps, ListFits, MakingKeeps, OpeningIsKept, PoppingKeeps, PushingKeeps, PuttingKeeps, StackFits, ImageBlockFits, SweepingKeeps, TplKeeps, UninstallingKeeps, WeakDroppingKeeps, WritingKeeps, BusListKeeps, NotingKeeps, RecordsKeep, NoRecordsAreKept, LivePartiesAreKept};
 
 /// The tables, lists of children and blocks of the firmware keep their bytes while they are mapped.
 /// They change only by being mapped and unmapped.
@@ -54,6 +54,9 @@ pub fn changes_keep()
     ensures bus_list { BusListKeeps }
     ensures pushing { PushingKeeps }
     ensures popping { PoppingKeeps }
+    ensures records { RecordsKeep }
+    ensures no_records { NoRecordsAreKept }
+    ensures live_parties { LivePartiesAreKept }
 {}
 
 /// The open records, each seen with its interface, are legal, and none is left out. A handle that
@@ -207,7 +210,8 @@ pub fn thunks_enter_images()
     ensures dropping { DroppingTakesThunks }
 {}
 
-/// Each change that is noted, made and taken back, leaves an equal soft part.
+/// Each change that is noted, made and taken back, leaves an equal soft part. Open records are not taken back
+/// here: a change that removes some is taken back only if there are none.
 pub fn changes_are_taken_back()
     ensures tpl { TplIsNoted }
     ensures write { WriteIsNoted }
@@ -216,8 +220,6 @@ pub fn changes_are_taken_back()
     ensures free { FreeIsNoted }
     ensures install { InstallIsNoted }
     ensures uninstall { UninstallIsNoted }
-    ensures enter { EnterIsNoted }
-    ensures leave { LeaveIsNoted }
     ensures drop_image { DropImageIsNoted }
     ensures add_image { AddImageIsNoted }
     ensures thunk { ThunkIsNoted }

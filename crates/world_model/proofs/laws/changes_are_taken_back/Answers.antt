@@ -1,5 +1,5 @@
 use Rattle.world_model.proofs.UndoNoted.{add_image_is_noted, allot_is_noted, bus_list_is_noted, child_is_noted, free_is_noted, install_is_noted, put_is_noted, thunk_is_noted, tpl_is_noted, write_is_noted}
-use Rattle.world_model.proofs.UndoRecords.{drop_image_is_noted, enter_is_noted, leave_is_noted, uninstall_is_noted}
+use Rattle.world_model.proofs.UndoRecords.{drop_image_is_noted, uninstall_is_noted}
 use Rattle.world_model.proofs.laws.changes_are_taken_back.Goals as goal
 
 pub returns : goal.returns
@@ -11,8 +11,6 @@ returns c = record {
   free = free_is_noted;
   install = install_is_noted;
   uninstall = uninstall_is_noted;
-  enter = enter_is_noted;
-  leave = leave_is_noted;
   drop_image = drop_image_is_noted;
   add_image = add_image_is_noted;
   thunk = thunk_is_noted;

@@ -4,7 +4,7 @@ use Rattle.world_model.proofs.KeepingInterfaces.{installing, uninstalling}
 use Rattle.world_model.proofs.KeepingImages.{adding, dropping}
 use Rattle.world_model.proofs.KeepingSweeps.{sweeping}
 use Rattle.world_model.proofs.KeepingStacks.{popping, pushing}
-use Rattle.world_model.proofs.KeepingRecords.{all_leaving, child_leaving, entering, leaving, weak_dropping}
+use Rattle.world_model.proofs.KeepingRecords.{all_leaving, child_leaving, entering, kept_with, leaving, live_kept, none_kept, weak_dropping}
 use Rattle.world_model.proofs.KeepingThunks.{making}
 use Rattle.world_model.proofs.KeepingChildren.{bus_list_set, noting}
 use Rattle.world_model.proofs.laws.changes_keep.Goals as goal
@@ -32,4 +32,7 @@ returns c = record {
   bus_list = bus_list_set;
   pushing = pushing;
   popping = popping;
+  records = kept_with;
+  no_records = none_kept;
+  live_parties = live_kept;
 }
