@@ -1,6 +1,6 @@
 -- What holds of every soft part, as the calls on its fields leave it.
-use Rattle.std.proofs.Common.{◌≡◌, ◌∙◌, ◌<◌, ◌≤◌, ℕ, ◌+◌, Bool, true, false, not, ◌&&◌, ◌||◌, cond, length, nat_eq, nat_lt, List, [], ◌∷◌, find, Option, Some, None, sym, subst, refl, ap, ◌++◌}
-use Rattle.std.specs.Prelude.{Result, Ok, Err, OnOk, OnErr, is_ok, is_some, option_map, if◌then◌else◌}
+use Rattle.std.proofs.Common.{◌≡◌, ◌∙◌, ◌<◌, ◌≤◌, ℕ, ◌+◌, Bool, true, false, ◌&&◌, ◌||◌, cond, length, nat_eq, nat_lt, List, [], ◌∷◌, find, Option, Some, None, sym, subst, refl, ap, ◌++◌}
+use Rattle.std.specs.Prelude.{Result, Ok, Err, OnOk, OnErr, is_ok, option_map, if◌then◌else◌}
 use Rattle.std.specs.List.{list_any}
 use Rattle.std.proofs.lemmas.Bool.{both_ways}
 use Rattle.fw_types.specs.Guid.{known_guid}
@@ -14,15 +14,8 @@ use Rattle.handle_db.specs.declared.handle_entry.HandleEntry.{HandleEntry}
 use Rattle.handle_db.specs.declared.handle_entry.Interface.{Interface}
 use Rattle.handle_db.specs.declared.refusal.DbRefusal.{DbRefusal}
 use Rattle.handle_db.specs.declared.refusal.Removed.{Removed}
-use Rattle.handle_db.specs.Database.{Database, Gives, interface_of, interfaces_in, interfaces_of, is_guid, is_handle, is_live}
-use Rattle.fw_types.specs.Attr.{is_legal}
-use Rattle.open_records.specs.declared.fault.RecFault.{RecFault}
-use Rattle.open_records.specs.OpenRecords.{RecordTable, records_of}
-use Rattle.record_table.specs.declared.open_record.KeyedRecord.{KeyedRecord}
-use Rattle.open_records.specs.declared.undoing.Choice.{Choice}
-use Rattle.open_records.specs.PuttingBack.{picks, without_passing}
-use Rattle.open_records.specs.Adding.{Gives as GivesRecord, added, is_full as is_table_full}
-use Rattle.open_records.specs.Verdicts.{judge, may_enter}
+use Rattle.handle_db.specs.Database.{Database, Gives, interfaces_in, interfaces_of, is_guid, is_handle, is_live}
+use Rattle.open_records.specs.OpenRecords.{RecordTable}
 use Rattle.handle_db.specs.Installing.{install_answer, installed, is_full as is_database_full}
 use Rattle.handle_db.specs.Removing.{remove_answer, removed, removal_of}
 use Rattle.world_model.specs.declared.bus_child.BusChild.{BusChild}
@@ -30,21 +23,20 @@ use Rattle.world_model.specs.declared.image.LoadedImage.{LoadedImage}
 use Rattle.world_model.specs.declared.thunk.Thunk.{Thunk}
 use Rattle.world_model.specs.World.{Soft}
 use Rattle.world_model.specs.Blocks.{block_room}
-use Rattle.world_model.specs.Records.{is_none_or_live, records_removed}
-use Rattle.world_model.specs.Interfaces.{firmware}
+use Rattle.world_model.specs.Records.{no_records}
+use Rattle.world_model.specs.Interfaces.{firmware, interface_removed, is_lasting}
 use Rattle.world_model.specs.CommandPath.{has_no_path, path_room, path_segment}
 use Rattle.world_model.proofs.CommandPath.{setting}
 use Rattle.world_model.specs.Images.{block_size, image_added, image_dropped, image_of, is_image_full, next_step, without_image, without_loaded}
 use Rattle.world_model.specs.Thunks.{without_thunks}
-use Rattle.world_model.specs.BusChildren.{child_function, child_noted, pci_io_of}
+use Rattle.world_model.specs.BusChildren.{child_function, child_noted, children_left, pci_io_of}
 use Rattle.world_model.proofs.KeepingChildren.{noting}
 use Rattle.world_model.specs.Kept.{IsKept, has_interface, has_pci_io, is_address, is_installed}
 use Rattle.world_model.proofs.KeepingBlocks.{writing}
 use Rattle.world_model.proofs.ImageLists.{found_passes}
 use Rattle.world_model.proofs.KeepingImages.{adding, dropping}
-use Rattle.world_model.proofs.KeepingInterfaces.{installing}
-use Rattle.world_model.proofs.KeepingRecords.{entering, kept_with}
-use Rattle.world_model.proofs.RecordParties.{has_from, records-filter}
+use Rattle.world_model.proofs.KeepingInterfaces.{installing, uninstalling}
+use Rattle.world_model.proofs.UndoRecords.{none_removed}
 
 -- a database in which an interface was installed, or not
 pub kept_installed : (soft : Soft) (who : Option ℕ) (new : Interface) (result : Result ℕ DbRefusal) (after : Database) → IsKept soft → Gives result (install_answer who new.guid soft.database)
@@ -58,18 +50,6 @@ pub kept_with_path : (soft : Soft) (bytes : List ℕ) (result : Result Unit OutO
     → OnOk result (after ≡ mapped (path_segment bytes) soft.memory) → OnErr result (after ≡ soft.memory) → IsKept (record soft { memory = after })
 kept_with_path soft bytes (Ok done) after kept none few ok err = subst (λ (memory : List Segment). IsKept (record soft { memory = memory })) (sym ok) (setting soft bytes kept none few)
 kept_with_path soft bytes (Err error) after kept none few ok err = subst (λ (memory : List Segment). IsKept (record soft { memory = memory })) (sym err) kept
-
--- records with one more open, or not
-pub kept_entered : (soft : Soft) (handle : ℕ) (guid : List ℕ) (agent controller attr : ℕ) (result : Result Unit RecFault) (after : RecordTable) → IsKept soft
-    → is_some (interface_of handle guid soft.database) ≡ true → is_live agent soft.database ≡ true → is_none_or_live controller soft.database ≡ true
-    → may_enter (judge (records_of soft.records.entries handle guid) agent controller attr) ≡ true → is_legal attr ≡ true
-    → GivesRecord result (is_table_full handle guid agent controller attr soft.records) → OnOk result (after ≡ added handle guid agent controller attr soft.records) → OnErr result (after ≡ soft.records)
-    → IsKept (record soft { records = after })
-kept_entered soft handle guid agent controller attr (Ok done) after kept there live none enters legal gives ok err =
-    subst (λ (table : RecordTable). IsKept (record soft { records = table })) (sym ok)
-    (entering soft handle guid agent controller attr kept (has_from handle guid soft.database there) live none enters legal gives)
-kept_entered soft handle guid agent controller attr (Err refusal) after kept there live none enters legal gives ok err =
-    subst (λ (table : RecordTable). IsKept (record soft { records = table })) (sym err) kept
 
 -- segments after a write, whether it was refused or not
 pub kept_written : (soft : Soft) (at n value : ℕ) (result : Result Unit MemRefusal) (after : List Segment) → IsKept soft → GivesWrite result (write_answer soft.memory at n)
@@ -134,23 +114,44 @@ db_dropped soft number one (Err refusal) after kept found is ok =
     let done : is_ok (remove_answer one.handle (known_guid LoadedImageProtocol) soft.database) ≡ true = remove_done soft.database one.handle (known_guid LoadedImageProtocol) one.block firmware has in
     absurd (both_ways (is_ok (remove_answer one.handle (known_guid LoadedImageProtocol) soft.database)) (sym (ap is_ok is)) done)
 
--- without an image that is found
-pub dropped_is : (soft : Soft) (number : ℕ) (one : LoadedImage) → image_of number soft.images ≡ Some one
-    → image_dropped number soft ≡ record soft { memory = unmapped (unmapped soft.memory one.base) one.block; database = removed one.handle (known_guid LoadedImageProtocol) soft.database; records = records_removed one.handle (known_guid LoadedImageProtocol) (removed one.handle (known_guid LoadedImageProtocol) soft.database) soft.records; images = without_image one.handle soft.images; thunks = without_thunks (beginning_at soft.memory one.base) soft.thunks }
-dropped_is soft number one found = ap (λ image. without_loaded image soft) found
+-- without an image that is found; there are no records to be removed
+pub without_is : (soft : Soft) (one : LoadedImage) → soft.records ≡ no_records
+    → without_loaded (Some one) soft ≡ record soft { memory = unmapped (unmapped soft.memory one.base) one.block; database = removed one.handle (known_guid LoadedImageProtocol) soft.database; images = without_image one.handle soft.images; thunks = without_thunks (beginning_at soft.memory one.base) soft.thunks }
+without_is soft one none =
+    let db = removed one.handle (known_guid LoadedImageProtocol) soft.database in
+    ap (λ (records : RecordTable). record soft { memory = unmapped (unmapped soft.memory one.base) one.block; database = db; records = records; images = without_image one.handle soft.images; thunks = without_thunks (beginning_at soft.memory one.base) soft.thunks })
+    (none_removed one.handle (known_guid LoadedImageProtocol) db soft.records none)
 
-pub kept_dropped : (soft : Soft) (number : ℕ) (one : LoadedImage) → IsKept soft → image_of number soft.images ≡ Some one
-    → IsKept (record soft { memory = unmapped (unmapped soft.memory one.base) one.block; database = removed one.handle (known_guid LoadedImageProtocol) soft.database; records = records_removed one.handle (known_guid LoadedImageProtocol) (removed one.handle (known_guid LoadedImageProtocol) soft.database) soft.records; images = without_image one.handle soft.images; thunks = without_thunks (beginning_at soft.memory one.base) soft.thunks })
-kept_dropped soft number one kept found = subst IsKept (dropped_is soft number one found) (dropping soft number kept)
+pub dropped_is : (soft : Soft) (number : ℕ) (one : LoadedImage) → soft.records ≡ no_records → image_of number soft.images ≡ Some one
+    → image_dropped number soft ≡ record soft { memory = unmapped (unmapped soft.memory one.base) one.block; database = removed one.handle (known_guid LoadedImageProtocol) soft.database; images = without_image one.handle soft.images; thunks = without_thunks (beginning_at soft.memory one.base) soft.thunks }
+dropped_is soft number one none found = ap (λ image. without_loaded image soft) found ∙ without_is soft one none
 
--- without an image that is found, as the calls on the fields leave it, with the protocol as it is looked for
-pub kept_without : (soft : Soft) (number : ℕ) (one : LoadedImage) (guid : List ℕ) (result : Result Removed DbRefusal) (memory : List Segment) (db : Database) (records : RecordTable) (images : List LoadedImage) (thunks : List Thunk)
-    → IsKept soft → image_of number soft.images ≡ Some one → guid ≡ known_guid LoadedImageProtocol → result ≡ remove_answer one.handle guid soft.database → OnOk result (db ≡ removed one.handle guid soft.database)
-    → memory ≡ unmapped (unmapped soft.memory one.base) one.block → records ≡ records_removed one.handle guid db soft.records → images ≡ without_image one.handle soft.images → thunks ≡ without_thunks (beginning_at soft.memory one.base) soft.thunks
-    → IsKept (record soft { memory = memory; database = db; records = records; images = images; thunks = thunks })
-kept_without soft number one guid result memory db records images thunks kept found known answer ok memory_is records_is images_is thunks_is =
+pub kept_dropped : (soft : Soft) (number : ℕ) (one : LoadedImage) → IsKept soft → soft.records ≡ no_records → image_of number soft.images ≡ Some one
+    → IsKept (record soft { memory = unmapped (unmapped soft.memory one.base) one.block; database = removed one.handle (known_guid LoadedImageProtocol) soft.database; images = without_image one.handle soft.images; thunks = without_thunks (beginning_at soft.memory one.base) soft.thunks })
+kept_dropped soft number one kept none found = subst IsKept (dropped_is soft number one none found) (dropping soft number kept)
+
+-- as the calls on the fields leave it, with the protocol as it is looked for
+pub kept_without : (soft : Soft) (number : ℕ) (one : LoadedImage) (guid : List ℕ) (result : Result Removed DbRefusal) (memory : List Segment) (db : Database) (images : List LoadedImage) (thunks : List Thunk)
+    → IsKept soft → soft.records ≡ no_records → image_of number soft.images ≡ Some one → guid ≡ known_guid LoadedImageProtocol → result ≡ remove_answer one.handle guid soft.database → OnOk result (db ≡ removed one.handle guid soft.database)
+    → memory ≡ unmapped (unmapped soft.memory one.base) one.block → images ≡ without_image one.handle soft.images → thunks ≡ without_thunks (beginning_at soft.memory one.base) soft.thunks
+    → IsKept (record soft { memory = memory; database = db; images = images; thunks = thunks })
+kept_without soft number one guid result memory db images thunks kept none found known answer ok memory_is images_is thunks_is =
     let db_is : db ≡ removed one.handle (known_guid LoadedImageProtocol) soft.database = db_dropped soft number one result db kept found (rw known at answer) (rw known at ok) in
-    rw (records_is, memory_is, images_is, thunks_is, db_is, known) (kept_dropped soft number one kept found)
+    rw (memory_is, images_is, thunks_is, db_is) (kept_dropped soft number one kept none found)
+
+-- ---- interfaces
+
+-- without an interface; there are no records to be removed
+pub uninstalled_is : (soft : Soft) (handle : ℕ) (guid : List ℕ) → soft.records ≡ no_records
+    → interface_removed handle guid soft ≡ record soft { database = removed handle guid soft.database; bus_children = children_left handle guid soft.bus_children }
+uninstalled_is soft handle guid none =
+    let db = removed handle guid soft.database in
+    ap (λ (records : RecordTable). record soft { database = db; records = records; bus_children = children_left handle guid soft.bus_children }) (none_removed handle guid db soft.records none)
+
+pub kept_uninstalled : (soft : Soft) (handle : ℕ) (guid : List ℕ) (db : Database) (children : List BusChild) → IsKept soft → soft.records ≡ no_records → is_lasting handle guid soft ≡ false
+    → db ≡ removed handle guid soft.database → children ≡ children_left handle guid soft.bus_children → IsKept (record soft { database = db; bus_children = children })
+kept_uninstalled soft handle guid db children kept none lasting db_is children_is =
+    rw (db_is, children_is) (subst IsKept (uninstalled_is soft handle guid none) (uninstalling soft handle guid kept lasting))
 
 -- ---- children of the bus
 
@@ -172,13 +173,3 @@ begins_found kind base (s ∷ rest) there = by_head (nat_eq s.base base) (is_of 
     by_head : (here own : Bool) → (here && own || begins kind base rest) ≡ true → (begins kind base rest ≡ true → is_ok (beginning_at rest base) ≡ true) → is_ok (cond here (Ok s) (beginning_at rest base)) ≡ true
     by_head true own there later = refl
     by_head false own there later = later there
-
--- ---- records that are removed
-
--- records without those of a choice, or not
-pub kept_taken : {T : Type 0} (soft : Soft) (choice : Choice) (result : Result T OutOfMemory) (after : RecordTable) → IsKept soft
-    → OnOk result (after ≡ without_passing (picks choice) soft.records) → OnErr result (after ≡ soft.records) → IsKept (record soft { records = after })
-kept_taken soft choice (Ok done) after kept ok err =
-    subst (λ (table : RecordTable). IsKept (record soft { records = table })) (sym ok)
-    (kept_with soft (without_passing (picks choice) soft.records) kept (records-filter (λ (one : KeyedRecord). not (picks choice one)) soft.database soft.records kept.records))
-kept_taken soft choice (Err error) after kept ok err = subst (λ (table : RecordTable). IsKept (record soft { records = table })) (sym err) kept

@@ -8,6 +8,7 @@ ghost use Rattle.world_model.specs.Faults.{Gives};
 ghost use Rattle.world_model.specs.Blocks.{allot_answer, block_added, block_freed, free_answer, is_block_full, is_image_block};
 ghost use Rattle.world_model.specs.Kept.{IsKept};
 ghost use Rattle.world_model.specs.Opening.{firmware_soft, opening_soft};
+ghost use Rattle.world_model.specs.Records.{no_records};
 ghost use Rattle.pci_model.specs.declared.numbers.TheConstants.{MOST_ROOTS as most_roots};
 ghost use Rattle.soft_part.specs.Answers.{done};
 
@@ -19,11 +20,10 @@ mod undoing;
 
 use crate::plain_part::PlainPart;
 use crate::roots::add_roots;
-use fw_types::{MOST_RECORDS, OutOfMemory};
+use fw_types::OutOfMemory;
 use guest_memory::address_map::BLOCK_END;
 use guest_memory::{GuestMem, MemRefusal, Memory, SegKind, Segment};
 use handle_db::Db;
-use open_records::Records;
 use soft_pieces::addresses::block_room;
 use soft_pieces::database::opening;
 use soft_pieces::mapping::map_free;
@@ -32,14 +32,13 @@ use std::alloc::Global;
 use std::marker::Model;
 use world_model::WorldFault;
 
-/// What an undo puts back: the memory of drivers, the handle database, the open records and the
-/// plain fields.
+/// What an undo puts back besides the open records: the memory of drivers, the handle database and the
+/// plain fields. A contract sees a soft part without records.
 #[derive(Drop)]
 pub struct SoftPart {
     alloc: Global,
     memory: Memory,
     database: Db,
-    records: Records,
     plain: PlainPart,
 }
 
@@ -50,10 +49,9 @@ impl Model for SoftPart {
 
     ghost Value = { Soft };
 
-    ghost view = { λ inside. soft_of inside.memory inside.database inside.records inside.plain };
+    ghost view = { λ inside. soft_of inside.memory inside.database inside.plain };
 
-    ghost invariant = { λ inside.
-        IsKept (soft_of inside.memory inside.database inside.records inside.plain) };
+    ghost invariant = { λ inside. IsKept (soft_of inside.memory inside.database inside.plain) };
 }
 
 impl SoftPart {
@@ -88,7 +86,6 @@ impl SoftPart {
             alloc,
             memory: tables(alloc)?,
             database: opening(alloc)?,
-            records: Records::new(alloc, MOST_RECORDS),
             plain: PlainPart::new(alloc, functions)?,
         })
     }
@@ -100,18 +97,18 @@ impl SoftPart {
         let _memory = &self.memory;
     }
 
+    /// It has no open records.
+    pub fn has_no_records(&self)
+        ensures { self.now.records ≡ no_records }
+    {
+        let _memory = &self.memory;
+    }
+
     /// The handle database.
     pub fn db(&self) -> &Db
         ensures { result.now ≡ self.now.database }
     {
         &self.database
-    }
-
-    /// The open records.
-    pub fn entries(&self) -> &Records
-        ensures { result.now ≡ self.now.records }
-    {
-        &self.records
     }
 
     /// The task priority level.

@@ -1,4 +1,3 @@
-pub mod Listed
 pub mod Order
 pub mod Placing
 pub mod Unmapping

@@ -1,5 +1,5 @@
-//! The images that are loaded, and what is removed with one: its bytes, its loaded image block, its
-//! interface, its thunks and its records.
+//! The images that are loaded, and what is removed with one: its bytes, its loaded image block,
+//! its interface and its thunks.
 ghost use Rattle.std.specs.List.{position, position_or_len};
 ghost use Rattle.std.specs.Prelude.{◌≡◌, true, IfOk, OnErr, OnOk, Some, filter, insert, option_copied, Ok};
 ghost use Rattle.guest_memory.specs.GuestMemory.{beginning_at, lie_from, mapped, unmapped};

@@ -1,5 +1,5 @@
 //! The pieces that the soft part of the world is made of: functions over the memory of drivers, the handle
-//! database, the open records and the plain lists. Each function needs only its own pieces. `soft_part`
+//! database and the plain lists. Each function needs only its own pieces. `soft_part`
 //! makes its calls out of them.
 //!
 //! - `mapping`: mapping that nothing refuses, of an image too, with its handle; `addresses`: how far the
@@ -8,7 +8,6 @@
 //!   what a loaded image block says about an image; `thunks`: the live thunks, by number and by
 //!   address.
 //! - `stack`: what a driver call finds on its stack, and the list of children that a Stop is given.
-//! - `opens`: the open records that are removed with an interface, a handle or an image, and come back.
 //! - `bus_children`: the children of the bus, and the bus lists of the board's functions.
 //! - `tables`, `database`: the memory and the handle database of the opening state.
 //!
@@ -21,7 +20,6 @@ pub mod database;
 pub mod image_block;
 pub mod images;
 pub mod mapping;
-pub mod opens;
 pub mod stack;
 pub mod tables;
 pub mod thunks;

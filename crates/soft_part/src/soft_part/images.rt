@@ -19,7 +19,6 @@ use soft_pieces::images::{
     drop_from, image_of, image_place, image_with_base, take_image, unmap_image,
 };
 use soft_pieces::mapping::add_loaded;
-use soft_pieces::opens::{sweep_tables, take_records};
 use soft_pieces::thunks::{thunk_address, thunk_with};
 use world_model::{Boxed, Change, DroppedImage, LoadedImage, Thunk, WorldFault};
 
@@ -100,8 +99,7 @@ impl SoftPart {
         Ok(Vec::from_slice(self.alloc, &block_bytes(&info))?)
     }
 
-    /// Removes an image with its loaded image block, its interface with the records, and its thunks, and
-    /// answers the change.
+    /// Removes an image with its loaded image block, its interface and its thunks, and answers the change.
     ///
     /// # Errors
     ///
@@ -121,10 +119,8 @@ impl SoftPart {
         let parts = take_image(self.alloc, &mut self.memory, &mut self.plain.thunks, &image);
         let guid = Guid::known(Known::LoadedImage);
         let removed = self.database.remove(image.handle, guid);
-        let gone = take_records(&mut self.records, &self.database, image.handle, guid);
         drop_from(&mut self.plain.images, image.handle);
         let (segment, block, thunks) = parts?;
-        let gone = Rows::of(gone?);
         let Ok(removed) = removed else {
             return Err(WorldFault::OutOfMemory);
         };
@@ -134,7 +130,6 @@ impl SoftPart {
             segment,
             block,
             removed,
-            gone,
             thunks: Rows::of(thunks),
         };
         Ok(Change::DropImage {
@@ -159,7 +154,8 @@ impl SoftPart {
             None => return Err(WorldFault::NotThere),
         };
         unmap_image(&mut self.memory, &mut self.plain.thunks, &image);
-        sweep_tables(&mut self.database, &mut self.records, image.handle);
+        self.database
+            .remove_owned(image.handle, Guid::known(Known::LoadedImage));
         drop_from(&mut self.plain.images, image.handle);
         Ok(())
     }

@@ -3,19 +3,16 @@ ghost use Rattle.std.specs.Prelude.{◌≡◌, true, OnOk};
 ghost use Rattle.fw_types.specs.Guid.{known_guid};
 ghost use Rattle.fw_types.specs.declared.guid.Known.TheVariants.{LoadedImage as LoadedImageProtocol};
 ghost use Rattle.handle_db.specs.Undoing.{HasRoomFor, IsInstalledLast};
-ghost use Rattle.open_records.specs.PuttingBack.{AreFitting};
 ghost use Rattle.world_model.specs.World.{with_memory};
 ghost use Rattle.world_model.specs.Kept.{IsKept};
 ghost use Rattle.world_model.specs.Undo.{put_if_there, taken_back};
 ghost use Rattle.world_model.specs.UndoLaws.{CanTakeBack};
 
 use crate::soft_part::SoftPart;
-use fw_types::{Attr, Guid, Handle, Known, MOST_RECORDS, OutOfMemory, Rows};
+use fw_types::{Guid, Handle, Known, OutOfMemory};
 use guest_memory::Segment;
-use open_records::{Gone, Records};
 use soft_pieces::bus_children::{BusList, put_child, replace_list};
 use soft_pieces::images::{remap, with_image, with_thunks_of};
-use soft_pieces::opens::put_records;
 use std::mem;
 use world_model::{Change, DroppedImage, LoadedImage, Uninstalled};
 
@@ -53,18 +50,6 @@ impl SoftPart {
                 Ok(())
             }
             Change::Uninstall { went } => self.reinstall(went.unboxed()),
-            Change::Enter {
-                handle,
-                guid,
-                agent,
-                controller,
-                attr,
-                before,
-            } => {
-                self.set_count_back(handle, guid, agent, controller, attr, before);
-                Ok(())
-            }
-            Change::Leave { gone } => self.put_records_back(gone),
             Change::DropImage { dropped } => self.remap_image(dropped.unboxed()),
             Change::AddImage { image } => {
                 self.unmake_image(image);
@@ -129,58 +114,17 @@ impl SoftPart {
     ///
     /// # Errors
     ///
-    /// `OutOfMemory` if there is no memory. The records and the children of the bus are then given up.
+    /// `OutOfMemory` if there is no memory. The children of the bus are then given up.
     fn reinstall(&mut self, went: Uninstalled) -> Result<(), OutOfMemory>
         requires kept { IsKept (taken_back (Change.Uninstall went) self.old) }
         requires room { HasRoomFor went.handle went.guid went.removed self.old.database }
-        requires fit { AreFitting went.gone self.old.records.entries }
         ensures { OnOk result (self.new ≡ taken_back (Change.Uninstall went) self.old) }
     {
-        let none = Records::new(self.alloc, MOST_RECORDS);
-        let mut records = mem::replace(&mut self.records, none);
         let mut children = mem::replace(&mut self.plain.bus_children, Vec::new(self.alloc));
-        put_records(&mut records, went.gone)?;
         put_child(&mut children, went.child)?;
         self.database
             .undo_remove(went.handle, went.guid, &went.removed)?;
-        self.records = records;
         self.plain.bus_children = children;
-        Ok(())
-    }
-
-    /// Takes an open back: the record counts as many opens as before.
-    fn set_count_back(
-        &mut self,
-        handle: Handle,
-        guid: Guid,
-        agent: u64,
-        controller: u64,
-        attr: Attr,
-        before: u32,
-    )
-        requires { IsKept (taken_back
-            (Change.Enter handle guid agent controller attr before) self.old) }
-        ensures { self.new ≡
-            taken_back (Change.Enter handle guid agent controller attr before) self.old }
-    {
-        self.records
-            .set_count(handle, guid, agent, controller, attr, before);
-    }
-
-    /// Puts back records that were removed.
-    ///
-    /// # Errors
-    ///
-    /// `OutOfMemory` if there is no memory. All records are then given up.
-    fn put_records_back(&mut self, gone: Rows<Gone>) -> Result<(), OutOfMemory>
-        requires kept { IsKept (taken_back (Change.Leave gone) self.old) }
-        requires fit { AreFitting gone self.old.records.entries }
-        ensures { OnOk result (self.new ≡ taken_back (Change.Leave gone) self.old) }
-    {
-        let none = Records::new(self.alloc, MOST_RECORDS);
-        let mut records = mem::replace(&mut self.records, none);
-        put_records(&mut records, gone)?;
-        self.records = records;
         Ok(())
     }
 
@@ -188,19 +132,15 @@ impl SoftPart {
     ///
     /// # Errors
     ///
-    /// `OutOfMemory` if there is no memory. The records are then given up.
+    /// `OutOfMemory` if there is no memory.
     fn remap_image(&mut self, dropped: DroppedImage) -> Result<(), OutOfMemory>
         requires kept { IsKept (taken_back (Change.DropImage dropped) self.old) }
         requires room { HasRoomFor dropped.image.handle (known_guid LoadedImageProtocol)
             dropped.removed self.old.database }
-        requires fit { AreFitting dropped.gone self.old.records.entries }
         ensures { OnOk result (self.new ≡ taken_back (Change.DropImage dropped) self.old) }
     {
         let images = with_image(self.alloc, self.plain.images.as_slice(), &dropped)?;
         let thunks = with_thunks_of(self.alloc, self.plain.thunks.as_slice(), &dropped)?;
-        let none = Records::new(self.alloc, MOST_RECORDS);
-        let mut records = mem::replace(&mut self.records, none);
-        put_records(&mut records, dropped.gone)?;
         remap(
             &mut self.memory,
             &mut self.database,
@@ -209,7 +149,6 @@ impl SoftPart {
             dropped.image.handle,
             dropped.removed,
         )?;
-        self.records = records;
         self.plain.images = images;
         self.plain.thunks = thunks;
         Ok(())

@@ -16,7 +16,7 @@ pub add_loaded-requires-clause-handle : goal.add_loaded-requires-clause-handle
 add_loaded-requires-clause-handle c =
     let inside = c.self.inside in
     let bytes = c.args.bytes.items in
-    let soft : Soft = soft_of inside.memory inside.database inside.records inside.plain in
+    let soft : Soft = soft_of inside.memory inside.database inside.plain in
     let count : c.len-size.result ≡ length bytes = c.len-size.ensures ∙ c.args.bytes.ok.0 in
     let room : is_image_full (length bytes) soft ≡ false =
     ap (λ (size : ℕ). is_image_full size soft) (sym count) ∙ ap (is_image_full c.len-size.result) c.self.view_is ∙ sym c.is_image_full.ensures ∙ c.if-is_image_full.false in
@@ -29,7 +29,7 @@ pub add_loaded-requires-clause-block : goal.add_loaded-requires-clause-block
 add_loaded-requires-clause-block c =
     let inside = c.self.inside in
     let bytes = c.args.bytes.items in
-    let soft : Soft = soft_of inside.memory inside.database inside.records inside.plain in
+    let soft : Soft = soft_of inside.memory inside.database inside.plain in
     let count : c.len-size.result ≡ length bytes = c.len-size.ensures ∙ c.args.bytes.ok.0 in
     let room : is_image_full (length bytes) soft ≡ false =
     ap (λ (size : ℕ). is_image_full size soft) (sym count) ∙ ap (is_image_full c.len-size.result) c.self.view_is ∙ sym c.is_image_full.ensures ∙ c.if-is_image_full.false in
@@ -45,7 +45,7 @@ pub add_loaded-requires-clause-image : goal.add_loaded-requires-clause-image
 add_loaded-requires-clause-image c =
     let inside = c.self.inside in
     let bytes = c.args.bytes.items in
-    let soft : Soft = soft_of inside.memory inside.database inside.records inside.plain in
+    let soft : Soft = soft_of inside.memory inside.database inside.plain in
     let count : c.len-size.result ≡ length bytes = c.len-size.ensures ∙ c.args.bytes.ok.0 in
     let room : is_image_full (length bytes) soft ≡ false =
     ap (λ (size : ℕ). is_image_full size soft) (sym count) ∙ ap (is_image_full c.len-size.result) c.self.view_is ∙ sym c.is_image_full.ensures ∙ c.if-is_image_full.false in
@@ -62,7 +62,7 @@ pub invariant_of-self-2 : goal.invariant_of-self-2
 invariant_of-self-2 c =
     let inside = c.self.inside in
     let bytes = c.args.bytes.items in
-    let soft : Soft = soft_of inside.memory inside.database inside.records inside.plain in
+    let soft : Soft = soft_of inside.memory inside.database inside.plain in
     let count : c.len-size.result ≡ length bytes = c.len-size.ensures ∙ c.args.bytes.ok.0 in
     let room : is_image_full (length bytes) soft ≡ false =
     ap (λ (size : ℕ). is_image_full size soft) (sym count) ∙ ap (is_image_full c.len-size.result) c.self.view_is ∙ sym c.is_image_full.ensures ∙ c.if-is_image_full.false in

@@ -12,7 +12,7 @@ use Rattle.soft_part.proofs.soft_part.SoftPart.free.Goals as goal
 pub invariant_of-self : goal.invariant_of-self
 invariant_of-self c =
     let inside = c.self.inside in
-    let soft : Soft = soft_of inside.memory inside.database inside.records inside.plain in
+    let soft : Soft = soft_of inside.memory inside.database inside.plain in
     let there : begins c.args.kind c.args.at inside.memory ≡ true = sym c.begins.ensures ∙ c.if-not-begins.false in
     let other : is_image_block c.args.at inside.plain.images.items ≡ false = ap (λ (s : Soft). is_image_block c.args.at s.images) c.self.view_is ∙ sym c.is_image_block.ensures ∙ c.if-is_image_block.false in
     let done : free_answer c.args.at c.args.kind soft ≡ Ok tt = rw (there, other) refl in

@@ -16,7 +16,7 @@ readable soft handle (Some image) kept is = block-readable soft handle image kep
 pub returns-clause-block : goal.returns-clause-block
 returns-clause-block c =
     let inside = c.self.inside in
-    let soft : Soft = soft_of inside.memory inside.database inside.records inside.plain in
+    let soft : Soft = soft_of inside.memory inside.database inside.plain in
     let found : c.copied.result ≡ image_of c.args.handle inside.plain.images.items =
     c.copied.ensures ∙ c.image_of.ensures ∙ ap (λ (images : List LoadedImage). image_of c.args.handle images) c.as_slice.ensures.value in
     subst (λ (s : Soft). IfSome c.copied.result (λ image. is_readable s.memory image.block block_size ≡ true)) c.self.view_is

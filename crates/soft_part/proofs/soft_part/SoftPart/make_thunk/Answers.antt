@@ -12,7 +12,7 @@ use Rattle.soft_part.proofs.soft_part.SoftPart.make_thunk.Goals as goal
 pub invariant_of-self-2 : goal.invariant_of-self-2
 invariant_of-self-2 c =
     let inside = c.self.inside in
-    let soft : Soft = soft_of inside.memory inside.database inside.records inside.plain in
+    let soft : Soft = soft_of inside.memory inside.database inside.plain in
     let some : is_some (image_at c.args.entry soft) ≡ true = ap (λ (s : Soft). is_some (image_at c.args.entry s)) c.self.view_is ∙ c.requires in
     let room : nat_le MOST_THUNKS inside.plain.next_thunk ≡ false = grind (arith, nat_tests) in
     let done : is_ok (thunk_answer soft) ≡ true = rw room refl in

@@ -10,7 +10,7 @@ use Rattle.soft_part.proofs.soft_part.SoftPart.note_child.Goals as goal
 pub invariant_of-self-2 : goal.invariant_of-self-2
 invariant_of-self-2 c =
     let inside = c.self.inside in
-    let soft : Soft = soft_of inside.memory inside.database inside.records inside.plain in
+    let soft : Soft = soft_of inside.memory inside.database inside.plain in
     let there : has_pci_io c.args.handle soft.database ≡ true = ap (λ (s : Soft). has_pci_io c.args.handle s.database) c.self.view_is ∙ c.requires.there in
     let new : child_function c.args.handle soft ≡ None = ap (child_function c.args.handle) c.self.view_is ∙ c.requires.new in
     let room : nat_lt c.args.function (length soft.bus_lists) ≡ true = grind (arith, nat_tests, c.if-function-len.false, c.len.ensures, inside.plain.bus_lists.ok.0) in

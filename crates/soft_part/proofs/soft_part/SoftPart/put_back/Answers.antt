@@ -10,7 +10,7 @@ pub put_back-requires : goal.put_back-requires
 unfolding taken_back
 put_back-requires c =
     let inside = c.self.inside in
-    let soft : Soft = soft_of inside.memory inside.database inside.records inside.plain in
+    let soft : Soft = soft_of inside.memory inside.database inside.plain in
     let kept : IsKept (taken_back (Free c.args.segment) soft) = subst (λ (s : Soft). IsKept (taken_back (Free c.args.segment) s)) (sym c.self.view_is) c.requires in
     kept.memory.apart
 
@@ -18,7 +18,7 @@ pub invariant_of-self-2 : goal.invariant_of-self-2
 unfolding taken_back
 invariant_of-self-2 c =
     let inside = c.self.inside in
-    let soft : Soft = soft_of inside.memory inside.database inside.records inside.plain in
+    let soft : Soft = soft_of inside.memory inside.database inside.plain in
     let kept : IsKept (taken_back (Free c.args.segment) soft) = subst (λ (s : Soft). IsKept (taken_back (Free c.args.segment) s)) (sym c.self.view_is) c.requires in
     rw c.in_ok-put_back.ensures.ok kept
 

@@ -10,7 +10,7 @@ pub invariant_of-self : goal.invariant_of-self
 unfolding taken_back
 invariant_of-self c =
     let inside = c.self.inside in
-    let soft : Soft = soft_of inside.memory inside.database inside.records inside.plain in
+    let soft : Soft = soft_of inside.memory inside.database inside.plain in
     let kept : IsKept (taken_back (SetBusList c.args.function c.args.before) soft) = subst (λ (s : Soft). IsKept (taken_back (SetBusList c.args.function c.args.before) s)) (sym c.self.view_is) c.requires in
     rw (c.replace_list.ensures.now) kept
 

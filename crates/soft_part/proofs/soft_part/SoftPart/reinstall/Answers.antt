@@ -6,28 +6,19 @@ use Rattle.world_model.specs.Undo.{taken_back, with_child}
 use Rattle.soft_part.specs.Soft.{soft_of}
 use Rattle.soft_part.proofs.soft_part.SoftPart.reinstall.Goals as goal
 
-pub put_records-requires-clause-sound : goal.put_records-requires-clause-sound
-unfolding taken_back
-put_records-requires-clause-sound c =
-    let inside = c.self.inside in
-    let soft : Soft = soft_of inside.memory inside.database inside.records inside.plain in
-    let change = Uninstall c.args.went in
-    let kept : IsKept (taken_back change soft) = subst (λ (s : Soft). IsKept (taken_back change s)) (sym c.self.view_is) c.requires.kept in
-    rw c.replace-records.ensures.value (kept.records.sound)
-
 pub invariant_of-self-2 : goal.invariant_of-self-2
 unfolding taken_back
 invariant_of-self-2 c =
     let inside = c.self.inside in
-    let soft : Soft = soft_of inside.memory inside.database inside.records inside.plain in
+    let soft : Soft = soft_of inside.memory inside.database inside.plain in
     let change = Uninstall c.args.went in
     let kept : IsKept (taken_back change soft) = subst (λ (s : Soft). IsKept (taken_back change s)) (sym c.self.view_is) c.requires.kept in
     let children : c.put_child.new.children.items ≡ with_child c.args.went.child inside.plain.bus_children.items = c.in_ok-put_child.ensures.ok ∙ ap (λ v. with_child c.args.went.child v.items) c.replace-children.ensures.value in
-    rw (c.in_ok-undo_remove.ensures.ok, c.in_ok-put_records.ensures, c.replace-records.ensures.value, children) kept
+    rw (c.in_ok-undo_remove.ensures.ok, children) kept
 
 pub returns : goal.returns
 unfolding taken_back
 returns c =
     let inside = c.self.inside in
     let children : c.put_child.new.children.items ≡ with_child c.args.went.child inside.plain.bus_children.items = c.in_ok-put_child.ensures.ok ∙ ap (λ v. with_child c.args.went.child v.items) c.replace-children.ensures.value in
-    rw (c.in_ok-undo_remove.ensures.ok, c.in_ok-put_records.ensures, c.replace-records.ensures.value, children, ← c.self.view_is) refl
+    rw (c.in_ok-undo_remove.ensures.ok, children, ← c.self.view_is) refl

@@ -22,10 +22,10 @@ returns-in-None-clause-now c =
 pub invariant_of-self : goal.invariant_of-self
 invariant_of-self c =
     let inside = c.self.inside in
-    let soft : Soft = soft_of inside.memory inside.database inside.records inside.plain in
+    let soft : Soft = soft_of inside.memory inside.database inside.plain in
     let one = c.in-Some.image.now in
     let found = image_found c.args.handle c.get.result inside.plain.images.items c.as_slice.result.now (Some one) c.get.ensures.value c.as_slice.ensures.value c.in-Some.ensures in
-    rw (c.sweep_tables.ensures.database, c.sweep_tables.ensures.records, c.unmap_image.ensures.memory, c.unmap_image.ensures.thunks, c.drop_from.ensures) (sweeping_one soft c.args.handle one c.self.invariant found)
+    rw (c.remove_owned.ensures, c.known.ensures, c.unmap_image.ensures.memory, c.unmap_image.ensures.thunks, c.drop_from.ensures) (sweeping_one soft c.args.handle one c.self.invariant found)
 
 pub returns-clause-answer : goal.returns-clause-answer
 returns-clause-answer c =
@@ -38,7 +38,7 @@ pub returns-clause-now : goal.returns-clause-now
 unfolding image_swept
 returns-clause-now c =
     let inside = c.self.inside in
-    let soft : Soft = soft_of inside.memory inside.database inside.records inside.plain in
+    let soft : Soft = soft_of inside.memory inside.database inside.plain in
     let one = c.in-Some.image.now in
     let found = image_found c.args.handle c.get.result inside.plain.images.items c.as_slice.result.now (Some one) c.get.ensures.value c.as_slice.ensures.value c.in-Some.ensures in
-    rw (c.sweep_tables.ensures.database, c.sweep_tables.ensures.records, c.unmap_image.ensures.memory, c.unmap_image.ensures.thunks, c.drop_from.ensures, ← c.self.view_is, found) refl
+    rw (c.remove_owned.ensures, c.known.ensures, c.unmap_image.ensures.memory, c.unmap_image.ensures.thunks, c.drop_from.ensures, ← c.self.view_is, found) refl

@@ -14,7 +14,7 @@ pub invariant_of-self : goal.invariant_of-self
 unfolding taken_back
 invariant_of-self c =
     let inside = c.self.inside in
-    let soft : Soft = soft_of inside.memory inside.database inside.records inside.plain in
+    let soft : Soft = soft_of inside.memory inside.database inside.plain in
     let change = Install c.args.handle c.args.guid c.args.made in
     let kept : IsKept (taken_back change soft) = subst (λ (s : Soft). IsKept (taken_back change s)) (sym c.self.view_is) c.requires.kept in
     rw c.undo_install.ensures kept

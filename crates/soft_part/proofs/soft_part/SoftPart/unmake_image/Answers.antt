@@ -17,7 +17,7 @@ pub invariant_of-self : goal.invariant_of-self
 unfolding taken_back
 invariant_of-self c =
     let inside = c.self.inside in
-    let soft : Soft = soft_of inside.memory inside.database inside.records inside.plain in
+    let soft : Soft = soft_of inside.memory inside.database inside.plain in
     let change = AddImage c.args.image in
     let kept : IsKept (taken_back change soft) = subst (λ (s : Soft). IsKept (taken_back change s)) (sym c.self.view_is) c.requires.kept in
     let count : c.saturating_sub-others.result ≡ length inside.plain.images.items - 1 = c.saturating_sub-others.ensures ∙ ap (λ (n : ℕ). n - 1) (c.len.ensures ∙ inside.plain.images.ok.0) in
