@@ -7,12 +7,12 @@ ghost use Rattle.open_records.specs.Managing.{records_on};
 
 use fw_types::{Guid, Handle, OutOfMemory};
 use fw_world::World;
-use open_records::Records;
+use record_log::RecordLog;
 
 /// Whether an agent has a record with one of these bits on the interfaces of some protocols of a handle.
 /// If a controller is given, the record must be for it.
 fn is_among_records(
-    records: &Records,
+    records: &RecordLog,
     handle: Handle,
     protocols: &[(Guid, u64, Handle)],
     agent: u64,
@@ -20,7 +20,7 @@ fn is_among_records(
     bits: u32,
 ) -> bool
     ensures { result ≡ list_any (is_meant (Some agent) controller bits)
-        (records_on records.now.entries handle protocols.now) }
+        (records_on records.now.now.entries handle protocols.now) }
 {
     for (guid, _, _) in protocols {
         if records.has_meant(handle, *guid, Some(agent), controller, bits) {

@@ -90,11 +90,16 @@ fn leaves_in(rt: &(impl AllocGlobal + Abort), world: &mut World) -> Result<(), F
     let [_, disk, child] = add_disk(rt, world)?;
     let pci = Guid::known(Known::PciIo);
     open_all(rt, world, &OPENS)?;
-    assert_eq!(rt; world.leave(disk, pci, 3, 0), Ok(1));
-    assert_eq!(rt; world.leave(disk, pci, 3, 0), Ok(0));
-    assert_eq!(rt; world.leave_child(disk, 3, child), Ok(2));
-    assert_eq!(rt; world.drop_weak(disk, pci), Ok(1));
-    assert_eq!(rt; world.leave_all(disk, 3), Ok(2));
+    assert_eq!(rt; world.entries().len(), 8);
+    world.leave(disk, pci, 3, 0)?;
+    assert_eq!(rt; world.entries().len(), 7);
+    world.leave(disk, pci, 3, 0)?;
+    assert_eq!(rt; world.entries().len(), 7);
+    world.leave_child(disk, 3, child)?;
+    assert_eq!(rt; world.entries().len(), 5);
+    world.drop_weak(disk, pci)?;
+    assert_eq!(rt; world.entries().len(), 4);
+    world.leave_all(disk, 3)?;
     assert_eq!(rt; world.entries().len(), 2);
     Ok(())
 }
@@ -145,7 +150,7 @@ fn records_on(world: &World, handle: Handle, guid: Guid) -> Result<usize, OutOfM
 }
 
 /// Removes an agent's records on a handle.
-pub(crate) fn leave_all(world: &mut World, handle: Handle, agent: u64) -> Result<u32, OutOfMemory>
+pub(crate) fn leave_all(world: &mut World, handle: Handle, agent: u64) -> Result<(), OutOfMemory>
     ensures marks { OnOk result (world.new.marks ≡ world.old.marks) }
     ensures stacks { OnOk result (stacks world.new.now.soft ≡ stacks world.old.now.soft) }
 {
@@ -168,7 +173,8 @@ fn undone_opens_in(rt: &impl Abort, world: &mut World) -> Result<(), Fail>
     let mark = world.mark();
     opens(rt, world, (3, Known::PciIo, (1, 3, 0x10)))?;
     opens(rt, world, (3, Known::PciIo, (1, 0, 0x02)))?;
-    assert_eq!(rt; leave_all(world, disk, 1)?, 2);
+    leave_all(world, disk, 1)?;
+    assert_eq!(rt; world.entries().len(), 0);
     world.rollback(mark)?;
     has_records(rt, world, disk, &[(1, 0, 1)])?;
     opens(rt, world, (3, Known::PciIo, (1, 3, 0x10)))?;

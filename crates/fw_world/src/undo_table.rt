@@ -187,6 +187,7 @@ fn make(rt: &impl AllocGlobal, world: &mut World, call: Call, parts: Parts) -> R
         block,
     } = parts;
     let (pci, path) = (Guid::known(Known::PciIo), Guid::known(Known::DevicePath));
+    let before = world.entries().len();
     match call {
         Call::SetTpl => done(world.set_tpl(16)?),
         Call::Write => done(write_two(world, block, 0x3333)?),
@@ -202,14 +203,31 @@ fn make(rt: &impl AllocGlobal, world: &mut World, call: Call, parts: Parts) -> R
         Call::AddImage => Ok(add_image(rt, world, RUNTIME_DRIVER)?.get() != 0),
         Call::EnterNew => Ok(open(world, (6, Known::PciIo, (2, 7, 0x04)))?),
         Call::EnterAgain => Ok(open(world, (6, Known::PciIo, (1, 0, 0x02)))?),
-        Call::Leave => Ok(world.leave(disk, pci, 5, 6)? == 1),
-        Call::LeaveChild => Ok(world.leave_child(disk, 5, other)? == 2),
-        Call::LeaveAll => Ok(leave_all(world, other, 6)? == 1),
-        Call::DropWeak => Ok(world.drop_weak(disk, pci)? > 1),
+        Call::Leave => {
+            world.leave(disk, pci, 5, 6)?;
+            Ok(gone_since(world, before) == 1)
+        }
+        Call::LeaveChild => {
+            world.leave_child(disk, 5, other)?;
+            Ok(gone_since(world, before) == 2)
+        }
+        Call::LeaveAll => {
+            leave_all(world, other, 6)?;
+            Ok(gone_since(world, before) == 1)
+        }
+        Call::DropWeak => {
+            world.drop_weak(disk, pci)?;
+            Ok(gone_since(world, before) > 1)
+        }
         Call::UninstallFromDisk => done(uninstall_pci(world, disk)?),
         Call::UninstallFromOther => done(uninstall_pci(world, other)?),
         Call::DropImage => done(drop_image(world, image)?),
     }
+}
+
+/// How many records there are fewer than before.
+fn gone_since(world: &World, before: u32) -> u32 {
+    before.saturating_sub(world.entries().len())
 }
 
 /// A call without an answer was made.

@@ -5,7 +5,7 @@ ghost use Rattle.handle_db.specs.Database.{Gives as GivesDb, interface_of, is_li
 ghost use Rattle.open_records.specs.OpenRecords.{records_of};
 ghost use Rattle.open_records.specs.Adding.{Gives as GivesRecord, is_full as is_table_full};
 ghost use Rattle.open_records.specs.Verdicts.{judge, may_enter};
-ghost use Rattle.world_model.specs.Records.{all_left, child_left, is_none_or_live, record_entered, records_left, removed_count, weak_dropped};
+ghost use Rattle.world_model.specs.Records.{all_left, child_left, is_none_or_live, record_entered, records_left, weak_dropped};
 ghost use Rattle.fw_types.specs.declared.limits.TheConstants.{MOST_LEVELS as most_levels, MOST_LISTED as most_listed, MOST_MARKS as most_marks};
 ghost use Rattle.world_model.specs.World.{on_hard, on_soft, with_memory, with_tpl};
 ghost use Rattle.world_model.specs.Faults.{Gives};
@@ -36,9 +36,10 @@ use ebc_machine::Cpu;
 use fw_types::{Attr, Event, EventKind, Guid, Handle, Known, OutOfMemory, Outcome, Status};
 use guest_memory::{GuestMem, MemRefusal, SegKind};
 use handle_db::{Db, DbRefusal};
-use open_records::{RecFault, Records};
+use open_records::RecFault;
 use pci_model::laws::boards_are_small;
 use pci_model::{Board, DevRefusal, Space};
+use record_log::RecordLog;
 use soft_log::SoftLog;
 use std::alloc::Global;
 use std::marker::Model;
@@ -133,7 +134,7 @@ impl World {
     pub fn is_kept(&self)
         ensures { IsKept self.now.now.soft }
     {
-        self.soft.soft().is_kept();
+        self.soft.is_kept();
     }
 
     // ---- the board
@@ -417,10 +418,10 @@ impl World {
 
     /// The open records: which agent has which interface open, for which controller and how (UEFI
     /// 2.8, 7.3: OpenProtocol). Each names an interface and handles that are there.
-    pub fn entries(&self) -> &Records
-        ensures { result.now ≡ self.now.now.soft.records }
+    pub fn entries(&self) -> &RecordLog
+        ensures { result.now.now ≡ self.now.now.soft.records }
     {
-        self.soft.soft().entries()
+        self.soft.entries()
     }
 
     /// Installs an interface of a protocol on a handle, or on a new one if none is named, and
@@ -472,7 +473,7 @@ impl World {
     /// Enters an open of an interface (UEFI 2.8, 7.3: OpenProtocol): a record after those of the
     /// interface, or one more in the count of the record with the same agent, controller and
     /// attribute. The interface is there (`Db::interface`), the agent is live, and so is the
-    /// controller, or it is 0 if the open is for none. `Records::judged` answers `Add` or `Count`
+    /// controller, or it is 0 if the open is for none. `RecordLog::judged` answers `Add` or `Count`
     /// for it.
     ///
     /// # Errors
@@ -502,8 +503,8 @@ impl World {
         self.soft.enter(handle, guid, agent, controller, attr)
     }
 
-    /// Removes an agent's records for a controller, which may be 0, on an interface, and answers
-    /// how many they were (UEFI 2.8, 7.3: CloseProtocol).
+    /// Removes an agent's records for a controller, which may be 0, on an interface (UEFI 2.8, 7.3:
+    /// CloseProtocol).
     ///
     /// # Errors
     ///
@@ -514,9 +515,7 @@ impl World {
         guid: Guid,
         agent: u64,
         controller: u64,
-    ) -> Result<u32, OutOfMemory>
-        ensures number { IfOk result (λ number. number ≡
-            removed_count self.old.now.soft self.new.now.soft) }
+    ) -> Result<(), OutOfMemory>
         ensures now { OnOk result (self.new.now ≡
             on_soft (records_left handle guid agent controller) self.old.now) }
         ensures marks { OnOk result (self.new.marks ≡ self.old.marks) }
@@ -524,22 +523,19 @@ impl World {
         self.soft.leave(handle, guid, agent, controller)
     }
 
-    /// Removes an agent's records on all interfaces of a handle, and answers how many they were.
+    /// Removes an agent's records on all interfaces of a handle.
     ///
     /// # Errors
     ///
     /// `OutOfMemory` if there is no memory.
-    pub fn leave_all(&mut self, handle: Handle, agent: u64) -> Result<u32, OutOfMemory>
-        ensures number { IfOk result (λ number. number ≡
-            removed_count self.old.now.soft self.new.now.soft) }
+    pub fn leave_all(&mut self, handle: Handle, agent: u64) -> Result<(), OutOfMemory>
         ensures now { OnOk result (self.new.now ≡ on_soft (all_left handle agent) self.old.now) }
         ensures marks { OnOk result (self.new.marks ≡ self.old.marks) }
     {
         self.soft.leave_all(handle, agent)
     }
 
-    /// Removes an agent's BY_CHILD_CONTROLLER records for a child on all interfaces of a handle,
-    /// and answers how many they were.
+    /// Removes an agent's BY_CHILD_CONTROLLER records for a child on all interfaces of a handle.
     ///
     /// # Errors
     ///
@@ -549,9 +545,7 @@ impl World {
         handle: Handle,
         agent: u64,
         child: Handle,
-    ) -> Result<u32, OutOfMemory>
-        ensures number { IfOk result (λ number. number ≡
-            removed_count self.old.now.soft self.new.now.soft) }
+    ) -> Result<(), OutOfMemory>
         ensures now { OnOk result (self.new.now ≡
             on_soft (child_left handle agent child) self.old.now) }
         ensures marks { OnOk result (self.new.marks ≡ self.old.marks) }
@@ -559,15 +553,12 @@ impl World {
         self.soft.leave_child(handle, agent, child)
     }
 
-    /// Removes the records BY_HANDLE_PROTOCOL, GET_PROTOCOL and TEST_PROTOCOL of an interface, and
-    /// answers how many they were.
+    /// Removes the records BY_HANDLE_PROTOCOL, GET_PROTOCOL and TEST_PROTOCOL of an interface.
     ///
     /// # Errors
     ///
     /// `OutOfMemory` if there is no memory.
-    pub fn drop_weak(&mut self, handle: Handle, guid: Guid) -> Result<u32, OutOfMemory>
-        ensures number { IfOk result (λ number. number ≡
-            removed_count self.old.now.soft self.new.now.soft) }
+    pub fn drop_weak(&mut self, handle: Handle, guid: Guid) -> Result<(), OutOfMemory>
         ensures now { OnOk result (self.new.now ≡ on_soft (weak_dropped handle guid) self.old.now) }
         ensures marks { OnOk result (self.new.marks ≡ self.old.marks) }
     {

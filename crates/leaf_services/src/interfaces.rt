@@ -178,6 +178,6 @@ pub fn leave(
     ensures now { IfOk result (λ served. applied (Change.Close handle guid agent controller) w.old.now ≡ (served, w.new.now)) }
     ensures marks { OnOk result (w.new.marks ≡ w.old.marks) }
 {
-    let _gone = w.leave(handle, guid, agent, controller)?;
+    w.leave(handle, guid, agent, controller)?;
     Ok(with_status(Status::SUCCESS))
 }

@@ -9,7 +9,7 @@ use Rattle.guest_memory.specs.Segment.{is_block}
 use Rattle.guest_memory.specs.GuestMemory.{beginning_at}
 use Rattle.undo_log.specs.Log.{Section, noted}
 use Rattle.world_model.specs.declared.change.Change.{Change}
-use Rattle.world_model.specs.declared.change.Change.TheVariants.{SetTpl, Write, Put, Allot, Free, Install, Uninstall, Enter, Leave, DropImage, AddImage, MakeThunk, NoteChild, SetBusList}
+use Rattle.world_model.specs.declared.change.Change.TheVariants.{SetTpl, Write, Put, Allot, Free, Install, Uninstall, DropImage, AddImage, MakeThunk, NoteChild, SetBusList}
 use Rattle.world_model.specs.World.{Soft}
 use Rattle.world_model.specs.Blocks.{block_freed, free_answer}
 use Rattle.world_model.specs.Kept.{IsKept}
@@ -35,8 +35,6 @@ same_before (Allot at) a b same = refl
 same_before (Free segment) a b same = same
 same_before (Install handle guid made) a b same = same
 same_before (Uninstall went) a b same = same
-same_before (Enter handle guid agent controller attr before) a b same = same
-same_before (Leave gone) a b same = same
 same_before (DropImage dropped) a b same = same
 same_before (AddImage image) a b same = refl
 same_before MakeThunk a b same = same

@@ -8,21 +8,15 @@ use Rattle.handle_db.specs.Database.{unless}
 use Rattle.handle_db.specs.declared.refusal.DbRefusal.{DbRefusal}
 use Rattle.world_model.specs.declared.fault.WorldFault.{WorldFault}
 use Rattle.world_model.specs.declared.fault.WorldFault.TheVariants.{Full}
-use Rattle.open_records.specs.declared.undoing.Choice.{Choice}
-use Rattle.open_records.specs.declared.undoing.Gone.{Gone}
-use Rattle.open_records.specs.PuttingBack.{picks, without_passing}
 use Rattle.undo_log.specs.Log.{Section, noted}
 use Rattle.world_model.specs.declared.change.Change.{Change}
-use Rattle.world_model.specs.declared.change.Change.TheVariants.{Leave}
 use Rattle.world_model.specs.declared.stack_levels.StackLevels.{StackLevels}
 use Rattle.soft_log.specs.declared.moment.Moment.{Moment}
 use Rattle.world_model.specs.World.{Soft}
 use Rattle.world_model.specs.Kept.{IsKept}
-use Rattle.world_model.specs.Records.{with_records}
 use Rattle.world_model.specs.Undo.{kept_by, undone}
-use Rattle.world_model.specs.UndoLaws.{CanUndo, IsNoted, PutsBack}
+use Rattle.world_model.specs.UndoLaws.{CanUndo, IsNoted}
 use Rattle.world_model.proofs.UndoNoted.{noted_beside_stacks}
-use Rattle.world_model.proofs.UndoRecords.{leave_is_noted}
 use Rattle.soft_log.specs.Keeping.{AreKept, IsMomentOf, kept_from}
 
 -- what one mark keeps stays
@@ -63,11 +57,6 @@ pub are_noted : (marks : List (Section Change Moment)) (change : Change) (before
 unfolding AreKept
 are_noted [] change before after kept still is are = tt
 are_noted (mark ∷ marks) change before after kept still is are = are_noted_from [] (mark ∷ marks) change before after kept still is are
-
--- open records that were removed, and were noted with what puts them back
-pub noted_leave : (before after : Soft) (choice : Choice) (gone : List Gone) → IsKept before → after ≡ with_records (without_passing (picks choice) before.records) before → PutsBack gone before after
-    → IsNoted (Leave gone) before after
-noted_leave before after choice gone kept is back = rw is (leave_is_noted before choice gone kept (rw is at back))
 
 -- what is made lies at the next place, unless a limit is met
 pub made_at : (full : Bool) (next at : ℕ) → ◌≡◌ {A = Result ℕ WorldFault} (if full then Err Full else Ok next) (Ok at) → next ≡ at

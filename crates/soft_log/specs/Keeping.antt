@@ -1,9 +1,13 @@
--- The soft part with its log: the soft part now, and what its open marks keep.
+-- The soft part with its log and that of the open records: the soft part now, and what the open marks keep.
 use Rattle.std.specs.Prelude.{◌≡◌, ℕ, Bool, ◌&&◌, nat_le, List, [], ◌∷◌, ◌++◌, if◌then◌else◌}
 use Rattle.guest_memory.specs.declared.segment.Segment.{Segment}
+use Rattle.open_records.specs.OpenRecords.{RecordTable}
+use Rattle.record_log.specs.MarkedRecords.{MarkedRecords}
 use Rattle.undo_log.specs.Log.{Section}
 use Rattle.soft_log.specs.declared.moment.Moment.{Moment}
 use Rattle.world_model.specs.declared.change.Change.{Change}
+use Rattle.world_model.specs.Kept.{AreRecordsKept}
+use Rattle.world_model.specs.Records.{with_records}
 use Rattle.world_model.specs.World.{Soft}
 use Rattle.world_model.specs.Undo.{AreLevelsOf, kept_by, later_levels, without_stacks}
 use Rattle.world_model.specs.UndoLaws.{CanUndo}
@@ -37,6 +41,38 @@ AreKept later (mark ∷ marks) soft =
     CanUndo (later ++ mark.changes) (without_stacks (later_levels mark.carried.levels) soft)
     × IsMomentOf mark.carried (kept_by mark.carried.levels (later ++ mark.changes) soft)
     × AreKept (later ++ mark.changes) marks soft
+
+-- ---- with the open records
+
+-- soft parts, each with its records
+abbrev pub merged : List RecordTable → List Soft → List Soft
+merged [] softs = []
+merged (table ∷ tables) [] = []
+merged (table ∷ tables) (soft ∷ softs) = with_records table soft ∷ merged tables softs
+
+-- The soft part now, from a soft part without records, its marks as the log has them, and the records with their
+-- marks; and what the open marks keep.
+abbrev pub marked_soft : Soft → List (Section Change Moment) → MarkedRecords → MarkedSoft
+marked_soft soft marks records = record {
+  now = with_records records.now soft;
+  marks = merged records.marks (kept_from [] marks soft);
+}
+
+-- there are as many soft parts as records, and the records of each name interfaces and handles that it has
+abbrev pub AreRecordsOf : List RecordTable → List Soft → Type 0
+AreRecordsOf [] [] = Unit {0}
+AreRecordsOf [] (soft ∷ softs) = ⊥
+AreRecordsOf (table ∷ tables) [] = ⊥
+AreRecordsOf (table ∷ tables) (soft ∷ softs) = AreRecordsKept soft.database table × AreRecordsOf tables softs
+
+-- what holds inside: the changes since each mark can be taken back; and the records now, and those that the marks keep,
+-- are records of the soft part now, and of those that the marks keep
+pub record IsInside (soft : Soft) (marks : List (Section Change Moment)) (records : MarkedRecords) : Type 0 where
+  pub part : AreKept [] marks soft
+  pub now : AreRecordsKept soft.database records.now
+  pub older : AreRecordsOf records.marks (kept_from [] marks soft)
+
+-- ---- what is noted
 
 -- whether a segment is a large block that was made when the next block lay at an address, or later
 abbrev pub is_new_block : (next_block : ℕ) → Segment → Bool

@@ -1,5 +1,5 @@
 ghost use Rattle.std.specs.Prelude.{◌≡◌, ◌<◌, ◌≤◌, [], ◌∷◌, false, true, IfOk, OnErr, OnOk, Ok, is_ok, is_some, length, replicate, if◌then◌else◌};
-ghost use Rattle.fw_types.specs.declared.limits.TheConstants.{MOST_LEVELS as most_levels, MOST_LISTED as most_listed, MOST_MARKS as most_marks};
+ghost use Rattle.fw_types.specs.declared.limits.TheConstants.{MOST_LEVELS as most_levels, MOST_LISTED as most_listed, MOST_MARKS as most_marks, MOST_RECORDS as most_records};
 ghost use Rattle.guest_memory.specs.Segment.{is_access, is_block};
 ghost use Rattle.guest_memory.specs.GuestMemory.{Gives as GivesWrite, bytes_of, is_writable_range, put_bytes, write_answer, written};
 ghost use Rattle.pci_model.specs.declared.numbers.TheConstants.{MOST_ROOTS as most_roots};
@@ -11,59 +11,57 @@ ghost use Rattle.world_model.specs.Faults.{Gives};
 ghost use Rattle.handle_db.specs.Database.{Gives as GivesDb, interface_of, is_live};
 ghost use Rattle.open_records.specs.OpenRecords.{records_of};
 ghost use Rattle.open_records.specs.Adding.{Gives as GivesRecord, is_full as is_table_full};
-ghost use Rattle.open_records.specs.PuttingBack.{picks, without_passing};
 ghost use Rattle.open_records.specs.Verdicts.{judge, may_enter};
-ghost use Rattle.world_model.specs.Records.{all_left, child_left, is_none_or_live, record_entered, records_left, removed_count, weak_dropped, with_records};
+ghost use Rattle.world_model.specs.Records.{all_left, child_left, is_none_or_live, no_records, record_entered, records_left, records_removed, weak_dropped, with_records};
 ghost use Rattle.world_model.specs.ImageSweep.{image_swept};
 ghost use Rattle.world_model.specs.Images.{add_answer, drop_answer, image_added, image_at as image_value, image_dropped};
 ghost use Rattle.world_model.specs.Interfaces.{install_answer, interface as interface_value, interface_added, interface_removed, is_lasting, uninstall_answer};
-ghost use Rattle.world_model.specs.Kept.{has_pci_io};
+ghost use Rattle.world_model.specs.Kept.{IsKept, has_pci_io};
 ghost use Rattle.world_model.specs.Marks.{older_marks, stacks};
 ghost use Rattle.world_model.specs.Opening.{opening_soft};
 ghost use Rattle.world_model.specs.Stacks.{frame as frame_value, has_stack, is_marked_stack, stack_popped, stack_pushed};
 ghost use Rattle.world_model.specs.Thunks.{thunk_answer, thunk_made};
 ghost use Rattle.world_model.specs.World.{with_memory, with_tpl};
-ghost use Rattle.world_model.specs.Undo.{taken_back};
-ghost use Rattle.world_model.specs.UndoLaws.{CanTakeBack};
-ghost use Rattle.soft_log.specs.Keeping.{is_new_block, newest_of, segment_noted};
+ghost use Rattle.record_log.specs.MarkedRecords.{newest_of as newest_records, older_marks as older_records};
+ghost use Rattle.undo_log.specs.Log.{depth};
+ghost use Rattle.soft_log.specs.Keeping.{AreKept, IsInside, is_new_block, kept_from, newest_of, segment_noted};
 
+use crate::mark::Mark;
 use crate::moment::Moment;
 use ebc_machine::Cpu;
-use fw_types::{Attr, Guid, Handle, OutOfMemory, Rows};
+use fw_types::{Attr, Guid, Handle, Known, MOST_RECORDS, OutOfMemory, Rows};
 use guest_memory::{GuestMem, MemRefusal, SegKind, Segment};
 use handle_db::DbRefusal;
-use open_records::{Choice, RecFault};
+use open_records::RecFault;
+use record_log::RecordLog;
 use soft_part::SoftPart;
 use std::alloc::Global;
 use std::marker::Model;
-use undo_log::{Log, Mark};
+use undo_log::Log;
 use world_model::{Change, LoadedImage, WorldFault};
 
 /// How many bytes a loaded image block has.
 const IMAGE_BLOCK_SIZE: usize = 96;
 
-/// A soft part, and the changes since its open marks.
+/// A soft part and its open records, each with the changes since the open marks.
 ///
 /// After `OutOfMemory` nothing is promised of it except that it can be dropped.
 #[derive(Drop)]
 pub struct SoftLog {
     alloc: Global,
     soft: SoftPart,
+    records: RecordLog,
     log: Log<Change, Moment>,
 }
 
 impl Model for SoftLog {
-    ghost use Rattle.std.specs.Prelude.{[]};
-    ghost use Rattle.soft_log.specs.Keeping.{AreKept, MarkedSoft, kept_from};
+    ghost use Rattle.soft_log.specs.Keeping.{IsInside, MarkedSoft, marked_soft};
 
     ghost Value = { MarkedSoft };
 
-    ghost view = { λ inside. record {
-      now = inside.soft;
-      marks = kept_from [] inside.log.marks inside.soft;
-    } };
+    ghost view = { λ inside. marked_soft inside.soft inside.log.marks inside.records };
 
-    ghost invariant = { λ inside. AreKept [] inside.log.marks inside.soft };
+    ghost invariant = { λ inside. IsInside inside.soft inside.log.marks inside.records };
 }
 
 impl SoftLog {
@@ -83,16 +81,39 @@ impl SoftLog {
             record { now = opening_soft functions bridges.now; marks = [] }) }
     {
         let log = Log::new(alloc)?;
+        let records = RecordLog::new(alloc, MOST_RECORDS)?;
         let soft = SoftPart::new(alloc, functions, bridges)?;
-        Ok(SoftLog { alloc, soft, log })
+        soft.has_no_records();
+        Ok(SoftLog {
+            alloc,
+            soft,
+            records,
+            log,
+        })
     }
 
-    /// The soft part now.
+    /// The soft part now, without the open records.
     #[inline]
     pub fn soft(&self) -> &SoftPart
-        ensures { result.now ≡ self.now.now }
+        ensures { result.now ≡ with_records no_records self.now.now }
     {
+        self.soft.has_no_records();
         &self.soft
+    }
+
+    /// The open records now.
+    #[inline]
+    pub fn entries(&self) -> &RecordLog
+        ensures { result.now.now ≡ self.now.now.records }
+    {
+        &self.records
+    }
+
+    /// What holds of every soft part, with its open records.
+    pub fn is_kept(&self)
+        ensures { IsKept self.now.now }
+    {
+        self.soft.is_kept();
     }
 
     /// Sets the task priority level.
@@ -279,10 +300,16 @@ impl SoftLog {
             Ok(change) => {
                 self.soft.is_kept();
                 self.log.note(change);
-                Ok(())
+                match remove_records(&self.soft, &mut self.records, handle, guid) {
+                    Ok(()) => Ok(()),
+                    Err(OutOfMemory) => {
+                        give_up(&self.soft, &mut self.records, &mut self.log);
+                        Err(DbRefusal::OutOfMemory)
+                    }
+                }
             }
             Err(DbRefusal::OutOfMemory) => {
-                self.log.clear();
+                give_up(&self.soft, &mut self.records, &mut self.log);
                 Err(DbRefusal::OutOfMemory)
             }
             Err(refusal) => Err(refusal),
@@ -317,23 +344,13 @@ impl SoftLog {
         ensures marks { self.new.marks ≡ self.old.marks }
         ensures err { OnErr result (self.new ≡ self.old) }
     {
-        self.log.reserve()?;
+        // The bits of an attribute are legal; its contract says so only of `bits`.
+        let _ = attr.bits();
         self.soft.is_kept();
-        let before = self.soft.open_count(handle, guid, agent, controller, attr);
-        self.soft.enter(handle, guid, agent, controller, attr)?;
-        self.soft.is_kept();
-        self.log.note(Change::Enter {
-            handle,
-            guid,
-            agent,
-            controller,
-            attr,
-            before,
-        });
-        Ok(())
+        self.records.enter(handle, guid, agent, controller, attr)
     }
 
-    /// Removes an agent's records for a controller on an interface, and answers how many they were.
+    /// Removes an agent's records for a controller on an interface.
     ///
     /// # Errors
     ///
@@ -344,42 +361,29 @@ impl SoftLog {
         guid: Guid,
         agent: u64,
         controller: u64,
-    ) -> Result<u32, OutOfMemory>
-        ensures number { IfOk result (λ number. number ≡ removed_count self.old.now self.new.now) }
+    ) -> Result<(), OutOfMemory>
         ensures now { OnOk result (self.new.now ≡
             records_left handle guid agent controller self.old.now) }
         ensures marks { self.new.marks ≡ self.old.marks }
         ensures err { OnErr result (self.new ≡ self.old) }
     {
-        self.take_records(&Choice::OfInterface {
-            handle,
-            guid,
-            agent: Some(agent),
-            controller: Some(controller),
-            bits: Attr::ALL_BITS,
-        })
+        self.records.leave(handle, guid, agent, controller)
     }
 
-    /// Removes an agent's records on all interfaces of a handle, and answers how many they were.
+    /// Removes an agent's records on all interfaces of a handle.
     ///
     /// # Errors
     ///
     /// `OutOfMemory` if there is no memory; all is then as before.
-    pub fn leave_all(&mut self, handle: Handle, agent: u64) -> Result<u32, OutOfMemory>
-        ensures number { IfOk result (λ number. number ≡ removed_count self.old.now self.new.now) }
+    pub fn leave_all(&mut self, handle: Handle, agent: u64) -> Result<(), OutOfMemory>
         ensures now { OnOk result (self.new.now ≡ all_left handle agent self.old.now) }
         ensures marks { self.new.marks ≡ self.old.marks }
         ensures err { OnErr result (self.new ≡ self.old) }
     {
-        self.take_records(&Choice::OnHandle {
-            handle,
-            agent: Some(agent),
-            controller: None,
-            bits: Attr::ALL_BITS,
-        })
+        self.records.leave_all(handle, agent)
     }
 
-    /// Removes an agent's records for a child on a handle, and answers how many they were.
+    /// Removes an agent's records for a child on a handle.
     ///
     /// # Errors
     ///
@@ -389,60 +393,25 @@ impl SoftLog {
         handle: Handle,
         agent: u64,
         child: Handle,
-    ) -> Result<u32, OutOfMemory>
-        ensures number { IfOk result (λ number. number ≡ removed_count self.old.now self.new.now) }
+    ) -> Result<(), OutOfMemory>
         ensures now { OnOk result (self.new.now ≡ child_left handle agent child self.old.now) }
         ensures marks { self.new.marks ≡ self.old.marks }
         ensures err { OnErr result (self.new ≡ self.old) }
     {
-        self.take_records(&Choice::OnHandle {
-            handle,
-            agent: Some(agent),
-            controller: Some(child.get()),
-            bits: Attr::BY_CHILD_CONTROLLER,
-        })
+        self.records.leave_child(handle, agent, child)
     }
 
-    /// Removes the records on an interface that keep nobody out, and answers how many they were.
+    /// Removes the records on an interface that keep nobody out.
     ///
     /// # Errors
     ///
     /// `OutOfMemory` if there is no memory; all is then as before.
-    pub fn drop_weak(&mut self, handle: Handle, guid: Guid) -> Result<u32, OutOfMemory>
-        ensures number { IfOk result (λ number. number ≡ removed_count self.old.now self.new.now) }
+    pub fn drop_weak(&mut self, handle: Handle, guid: Guid) -> Result<(), OutOfMemory>
         ensures now { OnOk result (self.new.now ≡ weak_dropped handle guid self.old.now) }
         ensures marks { self.new.marks ≡ self.old.marks }
         ensures err { OnErr result (self.new ≡ self.old) }
     {
-        self.take_records(&Choice::OfInterface {
-            handle,
-            guid,
-            agent: None,
-            controller: None,
-            bits: Attr::WEAK_BITS,
-        })
-    }
-
-    /// Removes records, and answers how many they were.
-    ///
-    /// # Errors
-    ///
-    /// `OutOfMemory` if there is no memory; all is then as before.
-    fn take_records(&mut self, choice: &Choice) -> Result<u32, OutOfMemory>
-        ensures number { IfOk result (λ number. number ≡ removed_count self.old.now self.new.now) }
-        ensures now { OnOk result (self.new.now ≡ with_records
-            (without_passing (picks choice.now) self.old.now.records) self.old.now) }
-        ensures marks { self.new.marks ≡ self.old.marks }
-        ensures err { OnErr result (self.new ≡ self.old) }
-    {
-        self.log.reserve()?;
-        self.soft.is_kept();
-        let before = self.soft.entries().len();
-        let gone = Rows::of(self.soft.take_records(choice)?);
-        self.soft.is_kept();
-        let left = self.soft.entries().len();
-        self.log.note(Change::Leave { gone });
-        Ok(before.saturating_sub(left))
+        self.records.drop_weak(handle, guid)
     }
 
     /// Changes nothing that can be seen, and gives up memory for open records that are no longer there.
@@ -450,7 +419,7 @@ impl SoftLog {
     pub fn tidy(&mut self)
         ensures { self.new ≡ self.old }
     {
-        self.soft.tidy();
+        self.records.tidy();
     }
 
     // ---- images
@@ -469,14 +438,24 @@ impl SoftLog {
     {
         self.log.reserve()?;
         self.soft.is_kept();
+        let Some(image) = self.soft.loaded_image(handle.get()) else {
+            return Err(WorldFault::NotThere);
+        };
         match self.soft.drop_image(handle) {
             Ok(change) => {
                 self.soft.is_kept();
                 self.log.note(change);
-                Ok(())
+                let guid = Guid::known(Known::LoadedImage);
+                match remove_records(&self.soft, &mut self.records, image.handle, guid) {
+                    Ok(()) => Ok(()),
+                    Err(OutOfMemory) => {
+                        give_up(&self.soft, &mut self.records, &mut self.log);
+                        Err(WorldFault::OutOfMemory)
+                    }
+                }
             }
             Err(WorldFault::OutOfMemory) => {
-                self.log.clear();
+                give_up(&self.soft, &mut self.records, &mut self.log);
                 Err(WorldFault::OutOfMemory)
             }
             Err(fault) => Err(fault),
@@ -496,7 +475,15 @@ impl SoftLog {
         ensures marks { self.new.marks ≡ self.old.marks }
         ensures err { OnErr result (self.new ≡ self.old) }
     {
-        self.soft.sweep_image(handle)
+        let Some(image) = self.soft.loaded_image(handle.get()) else {
+            return Err(WorldFault::NotThere);
+        };
+        self.soft.is_kept();
+        let guid = Guid::known(Known::DriverBinding);
+        self.records.drop_agents(self.soft.db(), image.handle, guid);
+        let swept = self.soft.sweep_image(handle);
+        self.records.drop_dead(self.soft.db());
+        swept
     }
 
     /// Maps an image and its loaded image block, which becomes the interface of a new handle.
@@ -675,7 +662,9 @@ impl SoftLog {
         self.soft.is_kept();
         let levels = self.soft.levels();
         let next_block = self.soft.next_block();
-        self.log.mark(Moment { levels, next_block })
+        let soft = self.log.mark(Moment { levels, next_block });
+        let records = self.records.mark();
+        Mark { soft, records }
     }
 
     /// Puts the soft part back that a mark keeps, and spends the mark. It is the newest that is
@@ -690,13 +679,20 @@ impl SoftLog {
         ensures now { OnOk result (self.new.now ≡ newest_of self.old.marks self.old.now) }
         ensures marks { OnOk result (self.new.marks ≡ older_marks self.old.marks) }
     {
-        'back: while let Some(change) = self.log.take_last(&mark) {
-            self.soft.is_kept();
-            take_back(&mut self.soft, &mut self.log, change)?;
+        let Mark { soft, records } = mark;
+        match put_back(
+            &mut self.soft,
+            &mut self.records,
+            &mut self.log,
+            soft,
+            records,
+        ) {
+            Ok(()) => Ok(()),
+            Err(OutOfMemory) => {
+                give_up(&self.soft, &mut self.records, &mut self.log);
+                Err(OutOfMemory)
+            }
         }
-        self.soft.is_kept();
-        self.log.commit(mark);
-        Ok(())
     }
 
     /// Spends a mark, and leaves the soft part as it is. The mark is the newest that is open. Takes no
@@ -706,7 +702,9 @@ impl SoftLog {
         ensures now { self.new.now ≡ self.old.now }
         ensures marks { self.new.marks ≡ older_marks self.old.marks }
     {
-        self.log.commit(mark);
+        let Mark { soft, records } = mark;
+        self.log.commit(soft);
+        self.records.commit(records);
     }
 }
 
@@ -752,28 +750,98 @@ fn is_new_block(segment: &Segment, next_block: u64) -> bool
         && segment.bytes.as_slice().len() > IMAGE_BLOCK_SIZE
 }
 
-/// Takes a change back. If it runs out of memory there is no way back to any mark, so all are given up.
+/// Removes the records of an interface that has been removed, and if its handle is no longer live, those that
+/// name the handle.
+///
+/// # Errors
+///
+/// `OutOfMemory` if there is no memory; the records are then as before.
+fn remove_records(
+    soft: &SoftPart,
+    records: &mut RecordLog,
+    handle: Handle,
+    guid: Guid,
+) -> Result<(), OutOfMemory>
+    ensures now { OnOk result (records.new.now ≡
+        records_removed handle guid soft.now.database records.old.now) }
+    ensures marks { records.new.marks ≡ records.old.marks }
+    ensures err { OnErr result (records.new ≡ records.old) }
+{
+    let goes = !soft.db().is_live(handle.get());
+    records.remove_interface(handle, guid, goes)
+}
+
+/// Gives up all marks, and the records of interfaces and handles that are not there, if there is no way back
+/// because memory ran out.
+fn give_up(soft: &SoftPart, records: &mut RecordLog, log: &mut Log<Change, Moment>)
+    requires { records.old.now.limit ≡ most_records }
+    ensures { IsInside soft.now log.new.marks records.new }
+{
+    log.clear();
+    records.clear();
+    records.soundness();
+    records.drop_dead(soft.db());
+}
+
+/// Takes back all changes since the newest mark.
 ///
 /// # Errors
 ///
 /// `OutOfMemory` if there is no memory.
-fn take_back(
+fn take_all_back(
     soft: &mut SoftPart,
     log: &mut Log<Change, Moment>,
-    change: Change,
+    mark: &undo_log::Mark,
 ) -> Result<(), OutOfMemory>
-    requires { CanTakeBack change soft.old }
-    ensures soft { OnOk result (soft.new ≡ taken_back change soft.old) }
-    ensures log { OnOk result (log.new.marks ≡ log.old.marks) }
-    ensures none { OnErr result (log.new.marks ≡ []) }
+    requires kept { AreKept [] log.old.marks soft.old }
+    requires newest { mark.now ≡ depth log.old }
+    requires stacks { stacks soft.old ≡
+        stacks (newest_of (kept_from [] log.old.marks soft.old) soft.old) }
+    ensures now { OnOk result (soft.new ≡
+        newest_of (kept_from [] log.old.marks soft.old) soft.old) }
+    ensures kept { OnOk result (AreKept [] log.new.marks soft.new) }
+    ensures marks { OnOk result (kept_from [] log.new.marks soft.new ≡
+        kept_from [] log.old.marks soft.old) }
 {
-    match soft.take_back(change) {
-        Ok(()) => Ok(()),
-        Err(OutOfMemory) => {
-            log.clear();
-            Err(OutOfMemory)
-        }
+    'back: while let Some(change) = log.take_last(mark) {
+        soft.is_kept();
+        soft.take_back(change)?;
     }
+    soft.is_kept();
+    Ok(())
+}
+
+/// Puts back what the newest marks keep, and spends the marks.
+///
+/// # Errors
+///
+/// `OutOfMemory` if there is no memory.
+fn put_back(
+    soft: &mut SoftPart,
+    records: &mut RecordLog,
+    log: &mut Log<Change, Moment>,
+    mark: undo_log::Mark,
+    records_mark: record_log::Mark,
+) -> Result<(), OutOfMemory>
+    requires kept { AreKept [] log.old.marks soft.old }
+    requires newest { mark ≡ depth log.old }
+    requires newest_records { records_mark ≡ length records.old.marks }
+    requires stacks { stacks soft.old ≡
+        stacks (newest_of (kept_from [] log.old.marks soft.old) soft.old) }
+    ensures now { OnOk result (soft.new ≡
+        newest_of (kept_from [] log.old.marks soft.old) soft.old) }
+    ensures kept { OnOk result (AreKept [] log.new.marks soft.new) }
+    ensures marks { OnOk result (kept_from [] log.new.marks soft.new ≡
+        older_marks (kept_from [] log.old.marks soft.old)) }
+    ensures records { OnOk result (records.new.now ≡
+        newest_records records.old.marks records.old.now) }
+    ensures older_records { OnOk result (records.new.marks ≡ older_records records.old.marks) }
+    ensures limit { records.new.now.limit ≡ records.old.now.limit }
+{
+    take_all_back(soft, log, &mark)?;
+    records.rollback(records_mark)?;
+    log.commit(mark);
+    Ok(())
 }
 
 #[cfg(test)]

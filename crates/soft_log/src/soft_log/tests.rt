@@ -2,10 +2,10 @@
 ghost use Rattle.std.specs.Prelude.{◌≡◌, IfOk, length};
 
 use super::SoftLog;
+use crate::mark::Mark;
 use guest_memory::SegKind;
 use std::alloc::{AllocError, Global};
 use std::test::Fail;
-use undo_log::Mark;
 use world_model::Change;
 
 /// So many zeros.
@@ -22,9 +22,10 @@ fn bytes_noted(soft_log: SoftLog, mark: &Mark) -> Option<usize>
     let SoftLog {
         alloc: _,
         soft: _,
+        records: _,
         mut log,
     } = soft_log;
-    match log.take_last(mark) {
+    match log.take_last(&mark.soft) {
         Some(Change::Free { segment }) => Some(segment.bytes.as_slice().len()),
         _ => None,
     }

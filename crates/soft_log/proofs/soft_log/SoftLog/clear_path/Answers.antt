@@ -1,10 +1,15 @@
 use Rattle.std.proofs.Common.{ap}
+use Rattle.world_model.specs.World.{Soft}
 use Rattle.soft_log.specs.Keeping.{MarkedSoft}
-use Rattle.soft_log.proofs.TakingBack.{none_kept}
+use Rattle.soft_log.proofs.Merged.{none_here}
 use Rattle.soft_log.proofs.soft_log.SoftLog.clear_path.Goals as goal
 
 pub invariant_of-self : goal.invariant_of-self
-invariant_of-self c = (none_kept c.self.inside.log.marks c.self.inside.soft c.clear_path.new.self _ (ap (λ (v : MarkedSoft). v.marks) c.self.view_is) c.requires.unmarked).0
+invariant_of-self c =
+    let inside = c.self.inside in
+    (none_here inside.log.marks inside.soft c.clear_path.new.self inside.records c.args.self.now.marks c.self.invariant (ap (λ (v : MarkedSoft). v.marks) c.self.view_is) c.requires.unmarked (ap (λ (s : Soft). s.database) c.clear_path.ensures)).0
 
 pub returns-clause-marks : goal.returns-clause-marks
-returns-clause-marks c = (none_kept c.self.inside.log.marks c.self.inside.soft c.clear_path.new.self _ (ap (λ (v : MarkedSoft). v.marks) c.self.view_is) c.requires.unmarked).1
+returns-clause-marks c =
+    let inside = c.self.inside in
+    (none_here inside.log.marks inside.soft c.clear_path.new.self inside.records c.args.self.now.marks c.self.invariant (ap (λ (v : MarkedSoft). v.marks) c.self.view_is) c.requires.unmarked (ap (λ (s : Soft). s.database) c.clear_path.ensures)).1

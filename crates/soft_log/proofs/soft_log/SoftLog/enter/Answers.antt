@@ -1,23 +1,26 @@
-use Rattle.std.proofs.Common.{ap, ◌∙◌}
-use Rattle.world_model.specs.declared.change.Change.{Change}
-use Rattle.world_model.specs.declared.change.Change.TheVariants.{Enter}
-use Rattle.world_model.specs.UndoLaws.{IsNoted}
-use Rattle.world_model.proofs.UndoRecords.{enter_is_noted}
+use Rattle.std.proofs.Common.{◌≡◌, true, ap, sym, ◌∙◌}
+use Rattle.std.specs.Prelude.{is_some}
+use Rattle.fw_types.specs.Attr.{is_legal}
+use Rattle.handle_db.specs.Database.{interface_of, is_live}
+use Rattle.open_records.specs.OpenRecords.{records_of}
+use Rattle.open_records.specs.Verdicts.{judge, may_enter}
+use Rattle.world_model.specs.Records.{is_none_or_live}
 use Rattle.soft_log.specs.Keeping.{MarkedSoft}
-use Rattle.soft_log.proofs.Noting.{are_noted, kept_noted}
+use Rattle.soft_log.proofs.Merged.{entered_inside}
 use Rattle.soft_log.proofs.soft_log.SoftLog.enter.Goals as goal
 
-pub invariant_of-self-2 : goal.invariant_of-self-2
-invariant_of-self-2 c =
+pub invariant_of-self : goal.invariant_of-self
+invariant_of-self c =
     let inside = c.self.inside in
-    let change : Change = Enter c.args.handle c.args.guid c.args.agent c.args.controller c.args.attr c.open_count-before.result in
-    let is : IsNoted change inside.soft c.enter.new.self = rw (c.open_count-before.ensures, c.in_ok-enter.ensures.ok) (enter_is_noted inside.soft c.args.handle c.args.guid c.args.agent c.args.controller c.args.attr c.is_kept.ensures) in
-    rw (c.note.ensures, c.reserve.ensures.marks) (are_noted inside.log.marks change inside.soft c.enter.new.self c.is_kept.ensures c.is_kept-2.ensures is c.self.invariant)
-
-pub returns-clause-marks : goal.returns-clause-marks
-returns-clause-marks c =
-    let inside = c.self.inside in
-    let change : Change = Enter c.args.handle c.args.guid c.args.agent c.args.controller c.args.attr c.open_count-before.result in
-    let is : IsNoted change inside.soft c.enter.new.self = rw (c.open_count-before.ensures, c.in_ok-enter.ensures.ok) (enter_is_noted inside.soft c.args.handle c.args.guid c.args.agent c.args.controller c.args.attr c.is_kept.ensures) in
-    rw (c.note.ensures, c.reserve.ensures.marks) (kept_noted inside.log.marks change inside.soft c.enter.new.self c.is_kept.ensures c.is_kept-2.ensures is)
-    ∙ ap (λ (v : MarkedSoft). v.marks) c.self.view_is
+    let handle = c.args.handle in
+    let guid = c.args.guid in
+    let agent = c.args.agent in
+    let controller = c.args.controller in
+    let attr = c.args.attr in
+    let there : is_some (interface_of handle guid inside.soft.database) ≡ true = ap (λ (v : MarkedSoft). is_some (interface_of handle guid v.now.database)) c.self.view_is ∙ c.requires.there in
+    let live : is_live agent inside.soft.database ≡ true = ap (λ (v : MarkedSoft). is_live agent v.now.database) c.self.view_is ∙ c.requires.agent in
+    let none : is_none_or_live controller inside.soft.database ≡ true = ap (λ (v : MarkedSoft). is_none_or_live controller v.now.database) c.self.view_is ∙ c.requires.controller in
+    let enters : may_enter (judge (records_of inside.records.now.entries handle guid) agent controller attr) ≡ true =
+    ap (λ (v : MarkedSoft). may_enter (judge (records_of v.now.records.entries handle guid) agent controller attr)) c.self.view_is ∙ c.requires.verdict in
+    let legal : is_legal attr ≡ true = ap is_legal (sym c.bits.ensures.value) ∙ c.bits.ensures.legal in
+    entered_inside c.enter.result inside.soft inside.log.marks inside.records c.enter.new.self handle guid agent controller attr c.is_kept.ensures c.self.invariant there live none enters legal c.enter.ensures.answer c.enter.ensures.now c.enter.ensures.marks c.enter.ensures.err

@@ -2,11 +2,12 @@ use Rattle.std.proofs.Common.{◌≡◌, ℕ, true, List, length, ap, sym, subst
 use Rattle.guest_memory.specs.GuestMemory.{bytes_of, is_writable_range, put_bytes}
 use Rattle.world_model.specs.declared.change.Change.{Change}
 use Rattle.world_model.specs.declared.change.Change.TheVariants.{Put}
-use Rattle.world_model.specs.World.{with_memory}
+use Rattle.world_model.specs.World.{Soft, with_memory}
 use Rattle.world_model.specs.UndoLaws.{IsNoted}
 use Rattle.world_model.proofs.UndoNoted.{put_is_noted}
-use Rattle.soft_log.specs.Keeping.{MarkedSoft}
-use Rattle.soft_log.proofs.Noting.{are_noted, kept_noted}
+use Rattle.soft_log.specs.Keeping.{MarkedSoft, merged}
+use Rattle.soft_log.proofs.Merged.{noted_here}
+use Rattle.soft_log.proofs.Noting.{kept_noted}
 use Rattle.soft_log.proofs.soft_log.SoftLog.put.Goals as goal
 
 pub invariant_of-self-2 : goal.invariant_of-self-2
@@ -18,7 +19,7 @@ invariant_of-self-2 c =
     let same : bytes_of inside.soft.memory c.args.at (length bytes) ≡ c.in_ok-before.before = sym c.in_ok-before.ensures in
     let base = put_is_noted inside.soft c.args.at bytes c.is_kept.ensures can in
     let is : IsNoted change inside.soft c.put.new.self = rw c.put.ensures (subst (λ (before : List ℕ). IsNoted (Put c.args.at before) inside.soft (with_memory (put_bytes inside.soft.memory c.args.at bytes) inside.soft)) same base) in
-    rw (c.note.ensures, c.reserve.ensures.marks) (are_noted inside.log.marks change inside.soft c.put.new.self c.is_kept.ensures c.is_kept-2.ensures is c.self.invariant)
+    rw (c.note.ensures, c.reserve.ensures.marks) (noted_here inside.log.marks change inside.soft c.put.new.self inside.records c.is_kept.ensures c.is_kept-2.ensures is (ap (λ (s : Soft). s.database) c.put.ensures) c.self.invariant)
 
 pub returns-clause-marks : goal.returns-clause-marks
 returns-clause-marks c =
@@ -29,5 +30,5 @@ returns-clause-marks c =
     let same : bytes_of inside.soft.memory c.args.at (length bytes) ≡ c.in_ok-before.before = sym c.in_ok-before.ensures in
     let base = put_is_noted inside.soft c.args.at bytes c.is_kept.ensures can in
     let is : IsNoted change inside.soft c.put.new.self = rw c.put.ensures (subst (λ (before : List ℕ). IsNoted (Put c.args.at before) inside.soft (with_memory (put_bytes inside.soft.memory c.args.at bytes) inside.soft)) same base) in
-    rw (c.note.ensures, c.reserve.ensures.marks) (kept_noted inside.log.marks change inside.soft c.put.new.self c.is_kept.ensures c.is_kept-2.ensures is)
+    rw (c.note.ensures, c.reserve.ensures.marks) (ap (merged inside.records.marks) (kept_noted inside.log.marks change inside.soft c.put.new.self c.is_kept.ensures c.is_kept-2.ensures is))
     ∙ ap (λ (v : MarkedSoft). v.marks) c.self.view_is

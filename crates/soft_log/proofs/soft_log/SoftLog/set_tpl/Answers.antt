@@ -2,9 +2,11 @@ use Rattle.std.proofs.Common.{ap, ◌∙◌}
 use Rattle.world_model.specs.declared.change.Change.{Change}
 use Rattle.world_model.specs.declared.change.Change.TheVariants.{SetTpl}
 use Rattle.world_model.specs.UndoLaws.{IsNoted}
+use Rattle.world_model.specs.World.{Soft}
 use Rattle.world_model.proofs.UndoNoted.{tpl_is_noted}
-use Rattle.soft_log.specs.Keeping.{MarkedSoft}
-use Rattle.soft_log.proofs.Noting.{are_noted, kept_noted}
+use Rattle.soft_log.specs.Keeping.{MarkedSoft, merged}
+use Rattle.soft_log.proofs.Merged.{noted_here}
+use Rattle.soft_log.proofs.Noting.{kept_noted}
 use Rattle.soft_log.proofs.soft_log.SoftLog.set_tpl.Goals as goal
 
 pub invariant_of-self-2 : goal.invariant_of-self-2
@@ -12,12 +14,12 @@ invariant_of-self-2 c =
     let inside = c.self.inside in
     let change : Change = SetTpl c.tpl-before.result in
     let is : IsNoted change inside.soft c.set_tpl.new.self = rw (c.tpl-before.ensures, c.set_tpl.ensures) (tpl_is_noted inside.soft c.args.tpl) in
-    rw (c.note.ensures, c.reserve.ensures.marks) (are_noted inside.log.marks change inside.soft c.set_tpl.new.self c.is_kept.ensures c.is_kept-2.ensures is c.self.invariant)
+    rw (c.note.ensures, c.reserve.ensures.marks) (noted_here inside.log.marks change inside.soft c.set_tpl.new.self inside.records c.is_kept.ensures c.is_kept-2.ensures is (ap (λ (s : Soft). s.database) c.set_tpl.ensures) c.self.invariant)
 
 pub returns-clause-marks : goal.returns-clause-marks
 returns-clause-marks c =
     let inside = c.self.inside in
     let change : Change = SetTpl c.tpl-before.result in
     let is : IsNoted change inside.soft c.set_tpl.new.self = rw (c.tpl-before.ensures, c.set_tpl.ensures) (tpl_is_noted inside.soft c.args.tpl) in
-    rw (c.note.ensures, c.reserve.ensures.marks) (kept_noted inside.log.marks change inside.soft c.set_tpl.new.self c.is_kept.ensures c.is_kept-2.ensures is)
+    rw (c.note.ensures, c.reserve.ensures.marks) (ap (merged inside.records.marks) (kept_noted inside.log.marks change inside.soft c.set_tpl.new.self c.is_kept.ensures c.is_kept-2.ensures is))
     ∙ ap (λ (v : MarkedSoft). v.marks) c.self.view_is
