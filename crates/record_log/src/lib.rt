@@ -11,3 +11,6 @@ mod record_log;
 
 pub use record_log::RecordLog;
 pub use undo_log::Mark;
+
+#[cfg(test)]
+mod tests;
