@@ -133,5 +133,5 @@ fn no_copies(rt: HostRuntime) -> Result<(), Fail> {
 /// A log uses as much memory for each change as the largest kind needs.
 #[test]
 fn changes_are_small(rt: HostRuntime) {
-    assert_eq!(rt; std::mem::size_of::<Change>(), 56);
+    assert_eq!(rt; std::mem::size_of::<Change>(), 48);
 }
