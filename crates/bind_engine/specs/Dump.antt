@@ -6,7 +6,7 @@ use Rattle.fw_types.specs.declared.dump.DumpLine.{DumpLine}
 use Rattle.fw_types.specs.declared.dump.DumpLine.TheVariants.{Handle, Proto, Entry}
 use Rattle.handle_db.specs.Database.{handles_with, protocols_of}
 use Rattle.open_records.specs.OpenRecords.{records_of}
-use Rattle.interface_records.specs.declared.open_record.Rec.{Rec}
+use Rattle.open_records.specs.declared.open_record.Rec.{Rec}
 use Rattle.world_model.specs.World.{Soft}
 
 abbrev pub record_line : Rec → DumpLine

@@ -12,8 +12,8 @@ use Rattle.handle_db.specs.Database.{protocols_of}
 use Rattle.open_records.specs.OpenRecords.{is_kept, is_of, records_of}
 use Rattle.open_records.specs.Leaving.{is_meant}
 use Rattle.open_records.specs.Managing.{child_numbers, is_child, once_each, records_on}
-use Rattle.interface_records.specs.declared.open_record.Rec.{Rec}
-use Rattle.record_table.specs.declared.open_record.KeyedRecord.{KeyedRecord}
+use Rattle.open_records.specs.declared.open_record.Rec.{Rec}
+use Rattle.open_records.specs.declared.open_record.KeyedRecord.{KeyedRecord}
 use Rattle.world_model.specs.World.{Soft}
 use Rattle.world_model.specs.Kept.{IsKept}
 use Rattle.driver_model.specs.StopOrder.{has_child}

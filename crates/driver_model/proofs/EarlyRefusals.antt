@@ -12,10 +12,10 @@ use Rattle.handle_db.specs.Database.{IsSound, is_live}
 use Rattle.handle_db.specs.Removing.{removed}
 use Rattle.handle_db.proofs.Keeping.{removing}
 use Rattle.handle_db.proofs.OnlyOne.{find-none}
-use Rattle.interface_records.specs.declared.open_record.Rec.{Rec}
-use Rattle.record_table.specs.declared.open_record.KeyedRecord.{KeyedRecord}
-use Rattle.record_table.specs.Keyed.{is_of, is_same}
-use Rattle.record_table.proofs.ListLemmas.{any_filter, any_of_filter, filter_none}
+use Rattle.open_records.specs.declared.open_record.Rec.{Rec}
+use Rattle.open_records.specs.declared.open_record.KeyedRecord.{KeyedRecord}
+use Rattle.open_records.specs.Keyed.{is_of, is_same}
+use Rattle.open_records.proofs.ListLemmas.{any_filter, any_of_filter, filter_none}
 use Rattle.open_records.specs.OpenRecords.{RecordTable, is_kept, records_of}
 use Rattle.open_records.specs.Leaving.{cut, is_meant, is_named, swept}
 use Rattle.open_records.specs.Managing.{is_managing}

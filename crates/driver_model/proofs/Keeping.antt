@@ -14,7 +14,7 @@ use Rattle.fw_types.specs.declared.status.TheConstants.Status.{ABORTED, SUCCESS}
 use Rattle.guest_memory.specs.GuestMemory.{is_writable_range, number_of}
 use Rattle.guest_memory.specs.declared.address_map.TheConstants.{EXIT}
 use Rattle.handle_db.specs.Database.{is_live}
-use Rattle.interface_records.specs.declared.open_record.Rec.{Rec}
+use Rattle.open_records.specs.declared.open_record.Rec.{Rec}
 use Rattle.ebc_machine.specs.Operands.{◌>>=◌}
 use Rattle.ebc_machine.specs.Step.{stepped}
 use Rattle.ebc_machine.specs.declared.cpu.Cpu.{Cpu}

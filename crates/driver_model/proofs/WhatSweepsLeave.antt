@@ -15,7 +15,7 @@ use Rattle.handle_db.specs.declared.handle_entry.HandleEntry.{HandleEntry}
 use Rattle.handle_db.specs.declared.handle_entry.Interface.{Interface}
 use Rattle.handle_db.specs.Database.{Database, has_any, interface_of, interfaces_in, is_guid, is_handle, is_live}
 use Rattle.handle_db.specs.OwnedInterfaces.{goes_with, is_owned_by, without_interfaces_of}
-use Rattle.record_table.specs.declared.open_record.KeyedRecord.{KeyedRecord}
+use Rattle.open_records.specs.declared.open_record.KeyedRecord.{KeyedRecord}
 use Rattle.world_model.specs.World.{Soft}
 use Rattle.world_model.specs.Images.{image_of, without_loaded}
 use Rattle.world_model.specs.ImageSweep.{database_without, image_swept, is_agent_of, is_loaded_image_of, left_of, record_stays, swept_of}

@@ -9,7 +9,7 @@ use Rattle.std.specs.List.{list_any}
 use Rattle.fw_types.specs.declared.attr.TheConstants.Attr.{AGENT_BITS}
 use Rattle.fw_types.specs.declared.status.Status.{Status}
 use Rattle.fw_types.specs.declared.status.TheConstants.Status.{INVALID_PARAMETER}
-use Rattle.record_table.specs.Keyed.{is_same}
+use Rattle.open_records.specs.Keyed.{is_same}
 use Rattle.open_records.specs.Leaving.{is_meant}
 use Rattle.world_model.specs.World.{Hard, Soft, State}
 use Rattle.world_model.specs.Kept.{IsKept}

@@ -16,7 +16,7 @@ use Rattle.fw_types.specs.declared.status.TheConstants.Status.{ACCESS_DENIED, IN
 use Rattle.handle_db.specs.Database.{interface_of}
 use Rattle.open_records.specs.OpenRecords.{records_of}
 use Rattle.open_records.specs.Managing.{is_managing}
-use Rattle.interface_records.specs.declared.open_record.Rec.{Rec}
+use Rattle.open_records.specs.declared.open_record.Rec.{Rec}
 use Rattle.world_model.specs.World.{Soft}
 use Rattle.world_model.specs.Interfaces.{firmware}
 use Rattle.service_model.specs.declared.call.HandleInterface.{HandleInterface}

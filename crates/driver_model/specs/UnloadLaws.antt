@@ -14,7 +14,7 @@ use Rattle.handle_db.specs.Database.{Database, interface_of, is_live}
 use Rattle.handle_db.specs.declared.handle_entry.HandleEntry.{HandleEntry}
 use Rattle.handle_db.specs.declared.handle_entry.Interface.{Interface}
 use Rattle.open_records.specs.OpenRecords.{RecordTable}
-use Rattle.record_table.specs.declared.open_record.KeyedRecord.{KeyedRecord}
+use Rattle.open_records.specs.declared.open_record.KeyedRecord.{KeyedRecord}
 use Rattle.world_model.specs.World.{Soft, State}
 use Rattle.world_model.specs.Images.{image_at, image_of, without_image}
 use Rattle.world_model.specs.ImageSweep.{image_swept, is_agent_of, left_of, record_stays}

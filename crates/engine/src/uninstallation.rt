@@ -139,6 +139,7 @@ fn uninstall_released(
         return Ok(Status::NOT_FOUND);
     };
     world.drop_weak(handle, i.guid)?;
+    world.make_ready(handle, i.guid);
     take_away(world, settings, room, scope, handle, i)
 }
 

@@ -424,6 +424,13 @@ impl World {
         self.soft.entries()
     }
 
+    /// Changes nothing that can be seen, and makes it fast to ask which open records an interface has.
+    pub fn make_ready(&mut self, handle: Handle, guid: Guid)
+        ensures { self.new ≡ self.old }
+    {
+        self.soft.make_ready(handle, guid);
+    }
+
     /// Installs an interface of a protocol on a handle, or on a new one if none is named, and
     /// answers the handle (UEFI 2.8, 7.3: InstallProtocolInterface). `owner` is the image that
     /// installs it.

@@ -9,7 +9,7 @@ use Rattle.byteorder.specs.Endian.{little_bytes}
 use Rattle.uuid.specs.Parts.{swap_fields}
 use Rattle.handle_db.specs.Database.{handles_with, protocols_of}
 use Rattle.open_records.specs.OpenRecords.{records_of}
-use Rattle.interface_records.specs.declared.open_record.Rec.{Rec}
+use Rattle.open_records.specs.declared.open_record.Rec.{Rec}
 use Rattle.world_model.specs.World.{State}
 use Rattle.service_model.specs.Contents.{contents_bytes, contents_count, name_places, names_bytes, names_of, number_bytes, record_bytes, records_bytes}
 use Rattle.service_model.specs.declared.plan.Contents.{Contents}

@@ -123,6 +123,15 @@ fn add_protocols(
     add_names(bytes, protocols)
 }
 
+/// Makes it fast to count the open records of an interface, and to list them.
+fn make_ready(contents: &Contents, w: &mut World)
+    ensures { w.new ≡ w.old }
+{
+    if let Contents::Opens { handle, guid } = *contents {
+        w.make_ready(handle, guid);
+    }
+}
+
 /// How many items a block has.
 fn item_count(contents: &Contents, w: &World) -> u64
     ensures count { result ≡ contents_count contents.now w.now.now }
@@ -232,6 +241,7 @@ pub fn return_block(
     ensures now { IfOk result (λ served. applied (Change.Block contents buffer count count_first) w.old.now ≡ (served, w.new.now)) }
     ensures marks { OnOk result (w.new.marks ≡ w.old.marks) }
 {
+    make_ready(&contents, w);
     let n = item_count(&contents, w);
     match allot_contents(&contents, n, w)? {
         None => Ok(with_status(Status::OUT_OF_RESOURCES)),

@@ -8,17 +8,16 @@ use Rattle.std.proofs.lemmas.Cmp.{nat_eq_equiv, nat_list_eq_equiv}
 use Rattle.fw_types.specs.Attr.{has_bit_of, is_legal}
 use Rattle.fw_types.specs.declared.attr.TheConstants.Attr.{HOLDING_BITS}
 use Rattle.open_records.specs.OpenRecords.{RecordTable, IsSound, clash, is_equal, is_kept, is_strong, stand_apart}
-use Rattle.record_table.specs.Keyed.{falls, is_after, is_before, is_of, records_of, rise}
+use Rattle.open_records.specs.Keyed.{falls, is_after, is_before, is_of, records_of, rise}
 use Rattle.open_records.specs.Verdicts.{Rule, against, applies, judge, may_enter, rules, says}
 use Rattle.open_records.specs.declared.verdict.Verdict.TheVariants.{Add, Count}
 use Rattle.open_records.specs.Adding.{added, first, is_full}
-use Rattle.record_table.specs.Changing.{most, raised, with_new, with_raised}
-use Rattle.record_table.specs.Table.{IsNew}
-use Rattle.record_table.specs.declared.open_record.KeyedRecord.{KeyedRecord}
-use Rattle.interface_records.specs.declared.open_record.Rec.{Rec}
-use Rattle.record_table.proofs.ListLemmas.{any_of_filter, any_filtered, any_same, no_pair-insert, no_pair-map}
-use Rattle.record_table.proofs.Order.{before_is_after, before-not_after, after-not_before, here-not_after}
-use Rattle.record_table.proofs.RangeLemmas.{three_parts}
+use Rattle.open_records.specs.Changing.{most, raised, with_new, with_raised}
+use Rattle.open_records.specs.declared.open_record.KeyedRecord.{KeyedRecord}
+use Rattle.open_records.specs.declared.open_record.Rec.{Rec}
+use Rattle.open_records.proofs.ListLemmas.{any_of_filter, any_filtered, any_same, no_pair-insert, no_pair-map}
+use Rattle.open_records.proofs.Order.{before_is_after, before-not_after, after-not_before, here-not_after}
+use Rattle.open_records.proofs.RangeLemmas.{three_parts}
 
 -- ---- the verdict
 
@@ -68,20 +67,9 @@ free_by true records agent controller attr enters none =
 free_by false records agent controller attr enters none = none
 
 -- if an open may be entered and no record is equal, none of the interface's records clashes with it
-free : (records : List Rec) (agent controller attr : ℕ) → may_enter (judge records agent controller attr) ≡ true → list_any (is_equal agent controller attr) records ≡ false
+pub no_clash : (records : List Rec) (agent controller attr : ℕ) → may_enter (judge records agent controller attr) ≡ true → list_any (is_equal agent controller attr) records ≡ false
     → list_any (λ (rec : Rec). (has_bit_of HOLDING_BITS attr && is_strong rec) || is_equal agent controller attr rec) records ≡ false
-free records agent controller attr enters none = free_by (has_bit_of HOLDING_BITS attr) records agent controller attr enters none
-
--- if an open may be entered and no record is equal, its record is new
-pub new_record : (handle : ℕ) (guid : List ℕ) (agent controller attr : ℕ) (rec : Rec) (entries after : List KeyedRecord) → rec ≡ first agent controller attr → after ≡ entries
-    → may_enter (judge (records_of entries handle guid) agent controller attr) ≡ true → list_any (is_equal agent controller attr) (records_of entries handle guid) ≡ false
-    → IsNew (record { handle = handle; guid = guid; rec = rec }) after
-new_record handle guid agent controller attr rec entries after is same enters none =
-    rw (is, same)
-    (record {
-      unequal = none;
-      holder = λ strong. by_holder (find is_strong (records_of entries handle guid)) (records_of entries handle guid) agent attr refl (rw strong at enters);
-    })
+no_clash records agent controller attr enters none = free_by (has_bit_of HOLDING_BITS attr) records agent controller attr enters none
 
 -- ---- clashes
 
@@ -202,7 +190,7 @@ module _ (handle : ℕ) (guid : List ℕ) (agent controller attr : ℕ) (table :
       let rec : Rec = first agent controller attr in
       let apart_from : list_any (clash (record { handle = handle; guid = guid; rec = rec })) table.entries ≡ false =
       any_of_filter (λ (one : KeyedRecord). one.rec) (is_of handle guid) (λ (other : Rec). (has_bit_of HOLDING_BITS attr && is_strong other) || is_equal agent controller attr other) table.entries
-      (free (records_of table.entries handle guid) agent controller attr enters none) in
+      (no_clash (records_of table.entries handle guid) agent controller attr enters none) in
       record {
         rising = rising_more handle guid rec table.entries sound.rising;
         apart = apart_more handle guid rec table.entries sound.rising sound.apart apart_from;

@@ -5,8 +5,8 @@ use Rattle.std.proofs.lemmas.List.{append-nil}
 use Rattle.std.proofs.lemmas.List.Folds.{list_any-append}
 use Rattle.std.proofs.lemmas.Bool.{both_ways, cases_Bool, eqb-true}
 use Rattle.open_records.specs.Managing.{once_each}
-use Rattle.open_records.specs.Places.{joined, with_number}
-use Rattle.record_table.proofs.ListLemmas.{filter_both}
+use Rattle.open_records.specs.NumberLists.{joined, with_number}
+use Rattle.open_records.proofs.ListLemmas.{filter_both}
 
 -- those that a list does not have
 abbrev is_new : List ℕ → ℕ → Bool

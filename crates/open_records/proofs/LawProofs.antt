@@ -1,5 +1,5 @@
 -- The laws of the records' single changes.
-use Rattle.std.proofs.Common.{◌≡◌, ◌≤◌, ℕ, ◌+◌, Bool, true, false, not, ◌&&◌, ◌||◌, nat_eq, nat_lt, List, [], ◌∷◌, ◌++◌, length, map, filter, count_by, None, refl, sym, ap, ◌∙◌, inl, inr, add-zero, arith, length-append, if◌then◌else◌, bytes_eq}
+use Rattle.std.proofs.Common.{◌≡◌, ◌≤◌, ℕ, Bool, true, false, not, ◌&&◌, ◌||◌, nat_eq, nat_lt, List, [], ◌∷◌, ◌++◌, length, map, filter, count_by, None, refl, sym, ap, ◌∙◌, inl, inr, arith, if◌then◌else◌, bytes_eq}
 use Rattle.std.specs.List.{list_any, list_all}
 use Rattle.std.proofs.lemmas.List.{append-nil, map-append}
 use Rattle.std.proofs.lemmas.List.Elements.{filter-append}
@@ -8,16 +8,16 @@ use Rattle.std.proofs.lemmas.Bool.{and_parts, or_parts, or_from, not-true, not_f
 use Rattle.fw_types.specs.Attr.{has_bit_of, is_legal, legal_attributes}
 use Rattle.fw_types.specs.declared.attr.TheConstants.Attr.{ALL_BITS}
 use Rattle.open_records.specs.OpenRecords.{clash, is_equal, is_kept, is_strong, stand_apart}
-use Rattle.record_table.specs.Keyed.{is_after, is_before, is_of, no_pair, records_of, rise, is_same}
+use Rattle.open_records.specs.Keyed.{is_after, is_before, is_of, no_pair, records_of, rise, is_same}
 use Rattle.open_records.specs.Adding.{first}
-use Rattle.record_table.specs.Changing.{raised, raised_where, with_new, with_raised}
-use Rattle.open_records.specs.Leaving.{is_meant, is_named, naming_after, with_places_from}
-use Rattle.open_records.specs.Laws.{AddedHere, AddedNotElsewhere, AddingKeeps, AllCut, CutHere, CutNotElsewhere, CutOnHere, CutOnNotElsewhere, CuttingKeeps, CuttingOnKeeps, NoEqualRecords, NoneNamed, OneHolder, SweepingKeeps, SweptEverywhere, SweptPlaces}
-use Rattle.record_table.specs.declared.open_record.KeyedRecord.{KeyedRecord}
-use Rattle.interface_records.specs.declared.open_record.Rec.{Rec}
-use Rattle.record_table.proofs.LeftLemmas.{filtered_here, left_elsewhere, left_here, other_interface, stays_there}
-use Rattle.record_table.proofs.ListLemmas.{all_filter, any_filtered, any_map, any_weaker, filter_both, filter_none}
-use Rattle.record_table.proofs.Order.{after-not_here, of_itself, same_from_of}
+use Rattle.open_records.specs.Changing.{raised, raised_where, with_new, with_raised}
+use Rattle.open_records.specs.Leaving.{is_meant, is_named}
+use Rattle.open_records.specs.Laws.{AddedHere, AddedNotElsewhere, AddingKeeps, AllCut, CutHere, CutNotElsewhere, CutOnHere, CutOnNotElsewhere, CuttingKeeps, CuttingOnKeeps, NoEqualRecords, NoneNamed, OneHolder, SweepingKeeps, SweptEverywhere}
+use Rattle.open_records.specs.declared.open_record.KeyedRecord.{KeyedRecord}
+use Rattle.open_records.specs.declared.open_record.Rec.{Rec}
+use Rattle.open_records.proofs.LeftLemmas.{filtered_here, left_elsewhere, left_here, other_interface, stays_there}
+use Rattle.open_records.proofs.ListLemmas.{all_filter, any_filtered, any_map, any_weaker, filter_both, filter_none}
+use Rattle.open_records.proofs.Order.{after-not_here, of_itself, same_from_of}
 use Rattle.open_records.proofs.AddingLemmas.{added_sound, all_between, new_between}
 use Rattle.open_records.proofs.RemovalLemmas.{cut_on_sound, cut_sound, swept_sound}
 
@@ -288,43 +288,3 @@ all_cut table sound handle guid =
 
 pub none_named : NoneNamed
 none_named table name = any_filtered (λ (o : KeyedRecord). not (is_named name o.rec)) (λ (o : KeyedRecord). is_named name o.rec) table.entries (λ o passes. not-true (is_named name o.rec) passes)
-
--- ---- what a sweep gives
-
-module _ (name handle : ℕ) (guid : List ℕ) where
-  abbrev pair : ℕ × List ℕ × ℕ × Rec → ℕ × Rec
-  pair gone = (gone.2, gone.3)
-
-  abbrev same : ℕ × List ℕ × ℕ × Rec → Bool
-  same gone = is_same gone.0 gone.1 handle guid
-
-  -- one more record before the others
-  pub counted : (here : Bool) (before : List KeyedRecord) (one : KeyedRecord) → is_of handle guid one ≡ here → length (records_of (before ++ one ∷ []) handle guid) ≡ length (records_of before handle guid) + (if here then 1 else 0)
-  counted true before one is =
-      let more : filter (is_of handle guid) (before ++ one ∷ []) ≡ filter (is_of handle guid) before ++ one ∷ [] = filter-append (is_of handle guid) before (one ∷ []) ∙ rw is refl in
-      ap (λ l. length (map (λ (o : KeyedRecord). o.rec) l)) more
-      ∙ ap length (map-append (λ (o : KeyedRecord). o.rec) (filter (is_of handle guid) before) (one ∷ [])) ∙ length-append (records_of before handle guid) (one.rec ∷ [])
-  counted false before one is =
-      let more : filter (is_of handle guid) (before ++ one ∷ []) ≡ filter (is_of handle guid) before = filter-append (is_of handle guid) before (one ∷ []) ∙ rw is (append-nil (filter (is_of handle guid) before)) in
-      ap (λ l. length (map (λ (o : KeyedRecord). o.rec) l)) more ∙ omega arith
-
-  one_place : (here named : Bool) (one : KeyedRecord) (place : ℕ) (rest : List (ℕ × List ℕ × ℕ × Rec)) (records : List Rec) (n : ℕ)
-      → is_of handle guid one ≡ here → is_named name one.rec ≡ named → (here ≡ true → place ≡ n)
-      → map pair (filter same rest) ≡ with_places_from (n + (if here then 1 else 0)) (is_named name) records
-      → map pair (filter same (if named then (one.handle, one.guid, place, one.rec) ∷ rest else rest)) ≡ with_places_from n (is_named name) (if here then one.rec ∷ records else records)
-  one_place true true one place rest records n is names at ih = rw (is, names, at refl) (ap (λ l. (n, one.rec) ∷ l) ih)
-  one_place true false one place rest records n is names at ih = rw names ih
-  one_place false true one place rest records n is names at ih = rw is (ih ∙ ap (λ m. with_places_from m (is_named name) records) (add-zero n))
-  one_place false false one place rest records n is names at ih = ih ∙ ap (λ m. with_places_from m (is_named name) records) (add-zero n)
-
-  places_after : (before entries : List KeyedRecord) → map pair (filter same (naming_after before name entries)) ≡ with_places_from (length (records_of before handle guid)) (is_named name) (records_of entries handle guid)
-  places_after before [] = refl
-  places_after before (one ∷ entries) =
-      let rest = places_after (before ++ one ∷ []) entries ∙ ap (λ n. with_places_from n (is_named name) (records_of entries handle guid)) (counted (is_of handle guid one) before one refl) in
-      let at : is_of handle guid one ≡ true → length (records_of before one.handle one.guid) ≡ length (records_of before handle guid) =
-      λ here. let is = same_from_of handle guid one here in rw (is.same_handle, is.same_guid) refl in
-      rw (pulled (is_of handle guid one) one (filter (is_of handle guid) entries))
-      (one_place (is_of handle guid one) (is_named name one.rec) one (length (records_of before one.handle one.guid)) (naming_after (before ++ one ∷ []) name entries) (records_of entries handle guid) (length (records_of before handle guid)) refl refl at rest)
-
-pub swept_places : SweptPlaces
-swept_places table name handle guid = places_after name handle guid [] table.entries

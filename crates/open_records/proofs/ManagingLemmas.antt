@@ -11,15 +11,15 @@ use Rattle.std.proofs.Math.Seq.{drop-cons}
 use Rattle.std.proofs.lemmas.List.{map-append}
 use Rattle.std.proofs.lemmas.List.Elements.{filter-append}
 use Rattle.open_records.specs.OpenRecords.{is_strong}
-use Rattle.record_table.specs.Keyed.{records_of}
+use Rattle.open_records.specs.Keyed.{records_of}
 use Rattle.open_records.specs.Managing.{child_numbers, is_child, is_managing, manager_numbers, records_on}
-use Rattle.open_records.specs.Places.{joined}
-use Rattle.record_table.specs.declared.open_record.KeyedRecord.{KeyedRecord}
-use Rattle.interface_records.specs.declared.open_record.Rec.{Rec}
-use Rattle.interface_records.specs.Records.{is_for_child, is_meant}
+use Rattle.open_records.specs.NumberLists.{joined}
+use Rattle.open_records.specs.declared.open_record.KeyedRecord.{KeyedRecord}
+use Rattle.open_records.specs.declared.open_record.Rec.{Rec}
+use Rattle.open_records.specs.Records.{is_for_child}
 use Rattle.open_records.specs.Leaving.{fits}
 use Rattle.open_records.proofs.DistinctNumbers.{joined-append}
-use Rattle.record_table.proofs.ListLemmas.{filter_both}
+use Rattle.open_records.proofs.ListLemmas.{filter_both}
 
 children-append : (agent : Option ℕ) (records more : List Rec) → child_numbers agent (records ++ more) ≡ child_numbers agent records ++ child_numbers agent more
 children-append agent records more = ap (map (λ (rec : Rec). rec.controller)) (filter-append (is_child agent) records more) ∙ map-append (λ (rec : Rec). rec.controller) (filter (is_child agent) records) (filter (is_child agent) more)
@@ -107,14 +107,6 @@ module _ (test : Rec → Bool) (weak_fails : (rec : Rec) → is_strong rec ≡ f
 
 pub manager_is : (records : List Rec) → length (filter is_strong records) ≤ 1 → find is_managing (option_to_list (find is_strong records)) ≡ find is_managing records
 manager_is = found_is is_managing weak_agent
-
-pub weak_meant : (agent controller : Option ℕ) (rec : Rec) → is_strong rec ≡ false → is_meant agent controller BY_DRIVER rec ≡ false
-weak_meant agent controller rec weak = rw (weak_agent rec weak) (by_bool (fits agent rec.agent) (fits controller rec.controller))
-  where
-    by_bool : (a b : Bool) → ((a && b) && false) ≡ false
-    by_bool true true = refl
-    by_bool true false = refl
-    by_bool false b = refl
 
 -- ---- only the BY_CHILD_CONTROLLER records
 

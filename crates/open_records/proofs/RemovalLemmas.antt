@@ -1,11 +1,11 @@
 -- Records that are removed: what stays is sound.
-use Rattle.std.proofs.Common.{◌≡◌, ℕ, Bool, not, ◌&&◌, nat_eq, List, Result, Ok, Err, OnOk, OnErr, filter, arith}
+use Rattle.std.proofs.Common.{ℕ, Bool, not, ◌&&◌, nat_eq, List, filter, arith}
 use Rattle.open_records.specs.OpenRecords.{RecordTable, IsSound, clash, is_kept}
-use Rattle.record_table.specs.Keyed.{falls, is_of}
+use Rattle.open_records.specs.Keyed.{falls, is_of}
 use Rattle.open_records.specs.Leaving.{cut, cut_on, is_named, swept}
-use Rattle.record_table.specs.declared.open_record.KeyedRecord.{KeyedRecord}
-use Rattle.interface_records.specs.declared.open_record.Rec.{Rec}
-use Rattle.record_table.proofs.ListLemmas.{all_filter, length-filter-le, no_pair-filter}
+use Rattle.open_records.specs.declared.open_record.KeyedRecord.{KeyedRecord}
+use Rattle.open_records.specs.declared.open_record.Rec.{Rec}
+use Rattle.open_records.proofs.ListLemmas.{all_filter, length-filter-le, no_pair-filter}
 
 -- fewer records of a sound table are sound
 pub filter_sound : (test : KeyedRecord → Bool) (table : RecordTable) → IsSound table → IsSound (record table { entries = filter test table.entries })
@@ -24,11 +24,3 @@ cut_on_sound handle test table sound = filter_sound (λ (one : KeyedRecord). not
 
 pub swept_sound : (name : ℕ) (table : RecordTable) → IsSound table → IsSound (swept name table)
 swept_sound name table sound = filter_sound (λ (one : KeyedRecord). not (is_named name one.rec)) table sound
-
--- what is left is sound, whether records were removed or not
-pub taken_sound : {X E : Type 0} (result : Result X E) (test : KeyedRecord → Bool) (left : List KeyedRecord) (table : RecordTable) → OnOk result (left ≡ filter (λ (one : KeyedRecord). not (test one)) table.entries) → OnErr result (left ≡ table.entries) → IsSound table
-    → IsSound (record table { entries = left })
-taken_sound (Ok gone) test left table went same sound =
-    let is : left ≡ filter (λ (one : KeyedRecord). not (test one)) table.entries = went in
-    rw is (filter_sound (λ (one : KeyedRecord). not (test one)) table sound)
-taken_sound (Err e) test left table went same sound = let is : left ≡ table.entries = same in rw is sound

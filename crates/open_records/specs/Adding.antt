@@ -1,11 +1,11 @@
 -- Entering an open (UEFI 2.8, 7.3: OpenProtocol).
 use Rattle.std.specs.Prelude.{◌≡◌, ℕ, Bool, true, false, ◌&&◌, not, nat_le, List, [], ◌∷◌, ◌++◌, length, map, Result, Ok, Err, if◌then◌else◌}
 use Rattle.std.specs.List.{list_any}
-pub use Rattle.record_table.specs.Changing.{most, raised, raised_where, with_new, with_raised}
+pub use Rattle.open_records.specs.Changing.{most, raised, raised_where, with_new, with_raised}
 use Rattle.open_records.specs.OpenRecords.{RecordTable, is_equal}
-use Rattle.record_table.specs.Keyed.{records_of}
-use Rattle.interface_records.specs.declared.open_record.Rec.{Rec}
-use Rattle.record_table.specs.declared.open_record.KeyedRecord.{KeyedRecord}
+use Rattle.open_records.specs.Keyed.{records_of}
+use Rattle.open_records.specs.declared.open_record.Rec.{Rec}
+use Rattle.open_records.specs.declared.open_record.KeyedRecord.{KeyedRecord}
 use Rattle.open_records.specs.declared.fault.RecFault.{RecFault}
 use Rattle.open_records.specs.declared.fault.RecFault.TheVariants.{Full, OutOfMemory}
 

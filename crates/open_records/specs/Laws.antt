@@ -1,16 +1,15 @@
 -- What the single changes of the records leave as it was, and what they mean for one interface.
-use Rattle.std.specs.Prelude.{◌≡◌, ℕ, ◌≤◌, Bool, true, false, not, nat_eq, List, [], map, filter, count_by, None}
+use Rattle.std.specs.Prelude.{◌≡◌, ℕ, ◌≤◌, Bool, true, false, not, nat_eq, List, [], filter, count_by, None}
 use Rattle.std.specs.List.{list_any}
 use Rattle.fw_types.specs.Attr.{is_legal}
 use Rattle.fw_types.specs.declared.attr.TheConstants.Attr.{ALL_BITS}
-pub use Rattle.record_table.specs.Keyed.{is_same}
+pub use Rattle.open_records.specs.Keyed.{is_same, records_of}
 use Rattle.open_records.specs.OpenRecords.{RecordTable, IsSound, is_equal, is_strong}
-use Rattle.record_table.specs.Keyed.{records_of}
 use Rattle.open_records.specs.Verdicts.{judge, may_enter}
 use Rattle.open_records.specs.Adding.{added, entered, is_full}
-use Rattle.open_records.specs.Leaving.{cut, cut_on, is_meant, is_named, naming, with_places, swept}
-use Rattle.record_table.specs.declared.open_record.KeyedRecord.{KeyedRecord}
-use Rattle.interface_records.specs.declared.open_record.Rec.{Rec}
+use Rattle.open_records.specs.Leaving.{cut, cut_on, is_meant, is_named, swept}
+use Rattle.open_records.specs.declared.open_record.KeyedRecord.{KeyedRecord}
+use Rattle.open_records.specs.declared.open_record.Rec.{Rec}
 
 -- ---- a sound table
 
@@ -119,11 +118,3 @@ abbrev pub NoneNamed : Type 0
 NoneNamed =
     (table : RecordTable) (name : ℕ)
     → list_any (λ (one : KeyedRecord). is_named name one.rec) (swept name table).entries ≡ false
-
--- what a sweep reports of one interface is what it removes of its list, each record with its place there
-abbrev pub SweptPlaces : Type 0
-SweptPlaces =
-    (table : RecordTable) (name handle : ℕ) (guid : List ℕ)
-    → map (λ (one : ℕ × List ℕ × ℕ × Rec). (one.2, one.3))
-    (filter (λ (one : ℕ × List ℕ × ℕ × Rec). is_same one.0 one.1 handle guid) (naming name table.entries))
-    ≡ with_places (is_named name) (records_of table.entries handle guid)

@@ -1,11 +1,12 @@
-pub mod Asking
+pub mod Records
+pub mod Keyed
+pub mod Interfaces
+pub mod Changing
 pub mod OpenRecords
 pub mod Verdicts
 pub mod Adding
 pub mod Leaving
 pub mod Managing
 pub mod Parties
-pub mod Places
 pub mod Laws
-pub mod PuttingBack
-pub mod Going
+pub mod NumberLists

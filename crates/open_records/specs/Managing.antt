@@ -4,10 +4,10 @@ use Rattle.std.specs.List.{flat_map}
 use Rattle.fw_types.specs.Attr.{has_bit_of}
 use Rattle.fw_types.specs.declared.attr.TheConstants.Attr.{BY_CHILD_CONTROLLER, BY_DRIVER}
 use Rattle.handle_db.specs.Database.{Database, protocols_of}
-use Rattle.record_table.specs.Keyed.{records_of}
+use Rattle.open_records.specs.Keyed.{records_of}
 use Rattle.open_records.specs.Leaving.{fits}
-use Rattle.interface_records.specs.declared.open_record.Rec.{Rec}
-use Rattle.record_table.specs.declared.open_record.KeyedRecord.{KeyedRecord}
+use Rattle.open_records.specs.declared.open_record.Rec.{Rec}
+use Rattle.open_records.specs.declared.open_record.KeyedRecord.{KeyedRecord}
 
 -- the records on a handle: by its protocols in order of installation, then in order of their making
 abbrev pub records_on : List KeyedRecord → ℕ → List (List ℕ × ℕ × ℕ) → List Rec

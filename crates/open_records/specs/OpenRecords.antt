@@ -2,9 +2,9 @@
 use Rattle.std.specs.Prelude.{◌≡◌, ℕ, ◌≤◌, Bool, true, ◌&&◌, ◌||◌, nat_lt, List, length}
 use Rattle.std.specs.List.{list_all}
 use Rattle.fw_types.specs.Attr.{is_legal}
-pub use Rattle.interface_records.specs.Records.{is_equal, is_strong}
-pub use Rattle.record_table.specs.Keyed.{falls, interface_order, is_after, is_before, is_of, no_pair, records_of, rise}
-use Rattle.record_table.specs.declared.open_record.KeyedRecord.{KeyedRecord}
+pub use Rattle.open_records.specs.Records.{is_equal, is_strong}
+pub use Rattle.open_records.specs.Keyed.{falls, interface_order, is_after, is_before, is_of, no_pair, records_of, rise}
+use Rattle.open_records.specs.declared.open_record.KeyedRecord.{KeyedRecord}
 
 -- all records, each with the handle and the GUID of its interface: by rising handle, then by GUID, then in
 -- order of their making; and how many records there may be

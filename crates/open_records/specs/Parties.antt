@@ -6,7 +6,7 @@ use Rattle.fw_types.specs.declared.attr.TheConstants.Attr.{AGENT_BITS}
 use Rattle.handle_db.specs.Database.{Database, has, interface_of, is_live}
 use Rattle.handle_db.specs.OwnedInterfaces.{is_owned_by}
 use Rattle.open_records.specs.OpenRecords.{RecordTable}
-use Rattle.record_table.specs.declared.open_record.KeyedRecord.{KeyedRecord}
+use Rattle.open_records.specs.declared.open_record.KeyedRecord.{KeyedRecord}
 
 -- ---- whether they are there
 

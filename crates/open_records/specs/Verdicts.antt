@@ -4,7 +4,7 @@ use Rattle.std.specs.List.{list_any}
 use Rattle.fw_types.specs.Attr.{has_bit_of}
 use Rattle.fw_types.specs.declared.attr.TheConstants.Attr.{BY_DRIVER, EXCLUSIVE, HOLDING_BITS}
 use Rattle.open_records.specs.OpenRecords.{is_equal, is_strong}
-use Rattle.interface_records.specs.declared.open_record.Rec.{Rec}
+use Rattle.open_records.specs.declared.open_record.Rec.{Rec}
 use Rattle.open_records.specs.declared.verdict.Verdict.{Verdict}
 use Rattle.open_records.specs.declared.verdict.Verdict.TheVariants.{Add, Count, Already, Denied, MustDisconnect}
 

@@ -1,8 +1,7 @@
 //! Laws of the records' single changes, over the definitions alone. Each is the contract of a function
 //! without code.
 
-ghost use Rattle.open_records.specs.PuttingBack.{CountingIsUndoing};
-ghost use Rattle.open_records.specs.Laws.{AddedHere, AddedNotElsewhere, AddingKeeps, AllCut, CutHere, CutNotElsewhere, CutOnHere, CutOnNotElsewhere, CuttingKeeps, CuttingOnKeeps, NoEqualRecords, NoneNamed, OneHolder, SweepingKeeps, SweptEverywhere, SweptPlaces};
+ghost use Rattle.open_records.specs.Laws.{AddedHere, AddedNotElsewhere, AddingKeeps, AllCut, CutHere, CutNotElsewhere, CutOnHere, CutOnNotElsewhere, CuttingKeeps, CuttingOnKeeps, NoEqualRecords, NoneNamed, OneHolder, SweepingKeeps, SweptEverywhere};
 
 /// An interface of a sound table has at most one record with BY_DRIVER or EXCLUSIVE, and no two records of
 /// the same agent, controller and attribute.
@@ -31,16 +30,8 @@ pub fn interfaces_change()
     ensures swept { SweptEverywhere }
 {}
 
-/// After a cut of all its records an interface has none, and after a sweep no record names the handle. For
-/// one interface a sweep reports what it removes of the interface's list, each record with its place there.
+/// After a cut of all its records an interface has none, and after a sweep no record names the handle.
 pub fn records_go()
     ensures cut { AllCut }
     ensures swept { NoneNamed }
-    ensures places { SweptPlaces }
-{}
-
-/// An open is taken back by setting the earlier count. For records that are taken out, the contract of
-/// `Records::take` itself says that they are put back.
-pub fn changes_are_undone()
-    ensures counting { CountingIsUndoing }
 {}

@@ -2,40 +2,22 @@
 //! (UEFI 2.8, 7.3: OpenProtocol, CloseProtocol, OpenProtocolInformation), and the rules for the opens of
 //! drivers and for exclusive opens.
 //!
-//! A contract sees `Records` as the record `RecordTable`: all records in one list, by handle, then by GUID,
+//! A contract sees the records of all interfaces as the record `RecordTable`: one list, by handle, then by GUID,
 //! then in order of their making, and how many records there may be. The records of one interface are those
 //! in the list that belong to it. `judge` says whether one more open is entered, and if it has to wait,
-//! which driver has to be disconnected first.
+//! which driver has to be disconnected first. The definitions say what each change of the records is.
 //!
-//! All records are in a table (`record_table`), which has the records of each interface as one value.
+//! The records themselves are kept by `record_log`.
 #![tactic(auto)]
 
-mod adding;
-mod choices;
+mod choosing;
 mod fault;
-mod finding;
-mod found;
 mod laws;
-mod leaving;
-mod listing;
-mod managing;
-mod records;
-mod removal;
-mod undoing;
-mod uses;
+mod open_record;
 mod verdict;
-mod walking;
 
+pub use choosing::Test;
 pub use fault::RecFault;
-pub use interface_records::Rec;
-pub use laws::{
-    changes_are_undone, changes_keep, interfaces_change, records_go, records_stand_apart,
-};
-pub use parted_records::Removed;
-pub use record_table::KeyedRecord;
-pub use records::Records;
-pub use undoing::{Choice, Gone};
+pub use laws::{changes_keep, interfaces_change, records_go, records_stand_apart};
+pub use open_record::{Interface, KeyedRecord, Meant, Opener, Rec, fits};
 pub use verdict::{Verdict, judge};
-
-#[cfg(test)]
-mod tests;

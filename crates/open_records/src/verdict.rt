@@ -4,8 +4,8 @@ ghost use Rattle.fw_types.specs.Attr.{has_bit_of};
 ghost use Rattle.open_records.specs.OpenRecords.{is_equal, is_strong};
 ghost use Rattle.open_records.specs.Verdicts.{against, judge, may_enter};
 
+use crate::open_record::Rec;
 use fw_types::Attr;
-use interface_records::Rec;
 
 /// What the records of an interface say about one more open.
 #[derive(Clone, Copy, Debug, PartialEq, Eq)]

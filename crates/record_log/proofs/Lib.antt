@@ -1,2 +1,10 @@
-pub mod Marks
-pub mod Removed
+pub mod LineLemmas
+pub mod SoundLemmas
+pub mod RecordMarks
+pub mod CutChanges
+pub mod LastCounting
+pub mod LineChanges
+pub mod ChosenLemmas
+pub mod AskingLemmas
+pub mod Fresh
+pub mod TallyLemmas

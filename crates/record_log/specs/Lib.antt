@@ -1,2 +1,4 @@
 pub mod MarkedRecords
+pub mod SoundRows
 pub mod TakingBack
+pub mod Tallies

@@ -1,46 +1,81 @@
--- Changes of the open records that are taken back, and what marks keep.
-use Rattle.std.specs.Prelude.{◌≡◌, ℕ, List, [], ◌∷◌}
-use Rattle.open_records.specs.OpenRecords.{IsSound, RecordTable}
-use Rattle.open_records.specs.PuttingBack.{AreFitting, count_set, put_back}
-use Rattle.record_log.specs.declared.change.RecordChange.{RecordChange}
-use Rattle.record_log.specs.declared.change.RecordChange.TheVariants.{Enter, Leave}
-use Rattle.undo_log.specs.AtMarks.{at_marks, undone}
+-- Changes of the rows that were made, how each is taken back, and what the open marks keep of the rows.
+use Rattle.std.specs.Prelude.{ℕ, ◌-◌, Bool, false, List, [], ◌∷◌, length, map, take, Option, Some, None}
+use Rattle.open_records.specs.OpenRecords.{RecordTable}
+use Rattle.open_records.specs.Interfaces.{Interface}
+use Rattle.record_rows.specs.Asking.{HasClass, HasName}
+use Rattle.record_rows.specs.Inside.{Kept}
+use Rattle.record_rows.specs.Rows.{Cuts, Line, RowsView, closed_at, counted_at, entries_of, with_both_cuts, with_name_cut}
+use Rattle.record_log.specs.declared.record_change.RecordChange.{RecordChange}
+use Rattle.record_log.specs.declared.tally.Tally.{Tally}
+use Rattle.record_log.specs.declared.record_change.RecordChange.TheVariants.{Closed, Counted, Cut, Made}
+use Rattle.undo_log.specs.AtMarks.{at_marks}
 use Rattle.undo_log.specs.Log.{Section}
 
--- the records before a change that was noted
-abbrev pub change_back : RecordChange → RecordTable → RecordTable
-change_back (Enter handle guid agent controller attr before) table = count_set handle guid agent controller attr before table
-change_back (Leave gone) table = put_back gone table
+-- ---- one change
 
--- the records are those into which a change can be taken back
-abbrev pub Fits : RecordChange → RecordTable → Type 0
-Fits (Enter handle guid agent controller attr before) table = Unit {0}
-Fits (Leave gone) table = AreFitting gone table.entries
+-- the rows at some places, closed or opened again
+abbrev pub closed_each : List ℕ → Bool → List Line → List Line
+closed_each [] closed lines = lines
+closed_each (place ∷ places) closed lines = closed_each places closed (closed_at place closed lines)
 
--- a change can be taken back, and the records are then sound
-pub record CanTakeBack (change : RecordChange) (table : RecordTable) : Type 0 where
-  pub fits : Fits change table
-  pub sound : IsSound (change_back change table)
+-- both cuts of an interface set back to these, if any are given
+abbrev pub with_interface_back : Interface → Option (ℕ × ℕ) → Cuts → Cuts
+with_interface_back interface None cuts = cuts
+with_interface_back interface (Some both) cuts = with_both_cuts interface both cuts
 
--- some changes can be taken back one after another, the last of which comes first
-unfoldable pub CanUndo : List RecordChange → RecordTable → Type 0
-CanUndo [] table = Unit {0}
-CanUndo (change ∷ changes) table = CanTakeBack change table × CanUndo changes (change_back change table)
+-- the cut of a handle number set back to this, if one is given
+abbrev pub with_name_back : ℕ → Option ℕ → Cuts → Cuts
+with_name_back name None cuts = cuts
+with_name_back name (Some place) cuts = with_name_cut name place cuts
 
--- the marks as the log has them, each with the changes since
+-- the rows before a change that was made
+abbrev pub back : RecordChange → RowsView → RowsView
+back Made rows = record rows { lines = take (length rows.lines - 1) rows.lines }
+back (Counted place before) rows = record rows { lines = counted_at place before rows.lines }
+back (Closed places) rows = record rows { lines = closed_each places false rows.lines }
+back (Cut handle guid interface name) rows = record rows { cuts = with_name_back handle name (with_interface_back (handle, guid) interface rows.cuts) }
+
+-- ---- what has cuts
+
+-- what is given has cuts in the rows
+abbrev pub IsInterfaceKnown : Interface → Option (ℕ × ℕ) → Kept → Type 0
+IsInterfaceKnown interface None kept = Unit {0}
+IsInterfaceKnown interface (Some both) kept = HasClass interface kept
+
+abbrev pub IsNameKnown : ℕ → Option ℕ → Kept → Type 0
+IsNameKnown name None kept = Unit {0}
+IsNameKnown name (Some place) kept = HasName name kept
+
+-- what a change has cut has cuts in the rows
+abbrev pub IsKnown : RecordChange → Kept → Type 0
+IsKnown Made kept = Unit {0}
+IsKnown (Counted place before) kept = Unit {0}
+IsKnown (Closed places) kept = Unit {0}
+IsKnown (Cut handle guid interface name) kept = IsInterfaceKnown (handle, guid) interface kept × IsNameKnown handle name kept
+
+abbrev pub AreKnown : List RecordChange → Kept → Type 0
+AreKnown [] kept = Unit {0}
+AreKnown (change ∷ changes) kept = IsKnown change kept × AreKnown changes kept
+
+-- ---- the open marks
+
+-- the marks as the log has them, each with the changes since and with the tally of the rows that it keeps
 abbrev pub Sections : Type 0
-Sections = List (Section RecordChange (Unit {0}))
+Sections = List (Section RecordChange Tally)
 
--- what the marks keep: the changes since each are taken back
-unfoldable pub kept_at : Sections → RecordTable → List RecordTable
-kept_at marks table = at_marks change_back (λ carried (then : RecordTable). then) marks table
+-- what was cut since any mark has cuts in the rows
+unfoldable pub AllKnown : Sections → Kept → Type 0
+AllKnown [] kept = Unit {0}
+AllKnown (newest ∷ older) kept = AreKnown newest.changes kept × AllKnown older kept
 
--- the changes since each mark can be taken back
-unfoldable pub AreKept : Sections → RecordTable → Type 0
-AreKept [] table = Unit {0}
-AreKept (newest ∷ older) table = CanUndo newest.changes table × AreKept older (undone change_back newest.changes table)
+-- the rows at the open marks: the changes since each are taken back
+unfoldable pub rows_at : Sections → RowsView → List RowsView
+rows_at marks rows = at_marks back (λ carried (then : RowsView). then) marks rows
 
--- what holds inside a log of records: how many there may be, and that its changes can be taken back
-pub record IsInside (table : RecordTable) (limit : ℕ) (marks : Sections) : Type 0 where
-  pub bound : table.limit ≡ limit
-  pub kept : AreKept marks table
+-- the table that rows give
+abbrev pub table_of : (limit : ℕ) → RowsView → RecordTable
+table_of limit rows = record { entries = entries_of rows; limit = limit }
+
+-- the tables that the open marks keep
+abbrev pub tables_at : (limit : ℕ) → Sections → RowsView → List RecordTable
+tables_at limit marks rows = map (table_of limit) (rows_at marks rows)

@@ -2,21 +2,27 @@ ghost use Rattle.std.specs.Prelude.{◌≡◌, ◌<◌, [], ◌∷◌, None, Som
 ghost use Rattle.std.specs.List.{list_any};
 ghost use Rattle.fw_types.specs.declared.attr.TheConstants.Attr.{ALL_BITS as all_bits, BY_CHILD_CONTROLLER as by_child_controller, WEAK_BITS as weak_bits};
 ghost use Rattle.fw_types.specs.declared.limits.TheConstants.{MOST_MARKS as most_marks};
-ghost use Rattle.interface_records.specs.declared.open_record.Rec.{Rec as RecValue};
+ghost use Rattle.open_records.specs.declared.open_record.Rec.{Rec as RecValue};
 ghost use Rattle.open_records.specs.Adding.{Gives, added, is_full};
 ghost use Rattle.open_records.specs.Leaving.{cut, cut_on, is_meant};
 ghost use Rattle.open_records.specs.Managing.{children, is_managing, managers};
 ghost use Rattle.open_records.specs.OpenRecords.{IsSound, records_of};
 ghost use Rattle.open_records.specs.Parties.{has_use_of, with_live_parties, without_agents_of};
-ghost use Rattle.open_records.specs.PuttingBack.{picks, without_passing};
 ghost use Rattle.open_records.specs.Verdicts.{judge, may_enter};
 ghost use Rattle.record_log.specs.MarkedRecords.{interface_cut, newest_of, older_marks};
-ghost use Rattle.record_log.specs.TakingBack.{CanTakeBack, change_back};
 
-use crate::change::RecordChange;
-use fw_types::{Attr, Guid, Handle, OutOfMemory, Rows};
+use crate::choices::{AgentsOf, Dead, UsesOf};
+use crate::fresh_rows::renew;
+use crate::managing::{children_on, manager_on, managers_on};
+use crate::record_change::RecordChange;
+use crate::row_asking::{has_meant, is_open, judged};
+use crate::row_changes::{close_rows, cut_all, cut_weak, enter_row, take_back};
+use crate::row_finding::{places_left, places_of_agent, places_of_child};
+use crate::tally::{Tally, count_of, is_at_limit, tally_at_mark};
+use fw_types::{Attr, Guid, Handle, OutOfMemory};
 use handle_db::Db;
-use open_records::{Choice, Rec, RecFault, Records, Verdict};
+use open_records::{Meant, Rec, RecFault, Verdict};
+use record_rows::RecordRows;
 use std::alloc::Global;
 use std::marker::Model;
 use undo_log::{Log, Mark};
@@ -29,22 +35,25 @@ use undo_log::{Log, Mark};
 pub struct RecordLog {
     alloc: Global,
     limit: u32,
-    records: Records,
-    log: Log<RecordChange, ()>,
+    tally: Tally,
+    rows: RecordRows,
+    log: Log<RecordChange, Tally>,
 }
 
 impl Model for RecordLog {
+    ghost use Rattle.record_rows.specs.Inside.{rows_of};
     ghost use Rattle.record_log.specs.MarkedRecords.{MarkedRecords};
-    ghost use Rattle.record_log.specs.TakingBack.{IsInside, kept_at};
+    ghost use Rattle.record_log.specs.SoundRows.{IsInside};
+    ghost use Rattle.record_log.specs.TakingBack.{table_of, tables_at};
 
     ghost Value = { MarkedRecords };
 
     ghost view = { λ inside. record {
-      now = inside.records;
-      marks = kept_at inside.log.marks inside.records;
+      now = table_of inside.limit (rows_of inside.rows);
+      marks = tables_at inside.limit inside.log.marks (rows_of inside.rows);
     } };
 
-    ghost invariant = { λ inside. IsInside inside.records inside.limit inside.log.marks };
+    ghost invariant = { λ inside. IsInside inside.limit inside.tally inside.rows inside.log.marks };
 }
 
 impl RecordLog {
@@ -62,7 +71,11 @@ impl RecordLog {
         Ok(RecordLog {
             alloc,
             limit,
-            records: Records::new(alloc, limit),
+            tally: Tally {
+                most: 0,
+                exact: true,
+            },
+            rows: RecordRows::new(alloc),
             log,
         })
     }
@@ -76,30 +89,21 @@ impl RecordLog {
         ensures mark { result ≡ length self.new.marks }
         ensures now { self.new ≡ record self.old { marks = self.old.now ∷ self.old.marks } }
     {
-        self.log.mark(())
+        self.log.mark(self.tally)
     }
 
-    /// Puts the records back that a mark keeps, and spends the mark. It is the newest that is open. Whatever the
-    /// answer, there may be as many records as before.
-    ///
-    /// # Errors
-    ///
-    /// `OutOfMemory` if there is no memory.
-    pub fn rollback(&mut self, mark: Mark) -> Result<(), OutOfMemory>
+    /// Puts the records back that a mark keeps, and spends the mark. It is the newest that is open. Takes no memory.
+    pub fn rollback(&mut self, mark: Mark)
         requires newest { mark ≡ length self.old.marks }
-        ensures now { OnOk result (self.new.now ≡ newest_of self.old.marks self.old.now) }
-        ensures marks { OnOk result (self.new.marks ≡ older_marks self.old.marks) }
+        ensures now { self.new.now ≡ newest_of self.old.marks self.old.now }
+        ensures marks { self.new.marks ≡ older_marks self.old.marks }
         ensures limit { self.new.now.limit ≡ self.old.now.limit }
     {
         'back: while let Some(change) = self.log.take_last(&mark) {
-            if take_back(&mut self.records, change).is_err() {
-                self.log.clear();
-                self.records = Records::new(self.alloc, self.limit);
-                return Err(OutOfMemory);
-            }
+            take_back(&mut self.rows, change);
         }
+        self.tally = tally_at_mark(&self.log, &self.rows);
         self.log.commit(mark);
-        Ok(())
     }
 
     /// Spends a mark, and leaves the records as they are. The mark is the newest that is open. Takes no memory.
@@ -122,14 +126,16 @@ impl RecordLog {
 
     // ---- changes
 
-    /// Enters an open of an interface (UEFI 2.8, 7.3: OpenProtocol), as `Records::add` does. `controller` is 0 if
-    /// the open is for none. The verdict of `judged` on this open must be `Add` or `Count`.
+    /// Enters an open of an interface (UEFI 2.8, 7.3: OpenProtocol). If the interface has a record of the same
+    /// agent, controller and attribute, its count rises by one, and stays at 4,294,967,295. Otherwise a record
+    /// with count 1 becomes the last of the interface's records. `controller` is 0 if the open is for none. The
+    /// verdict of `judged` on this open must be `Add` or `Count`.
     ///
     /// # Errors
     ///
     /// All is then as before.
     ///
-    /// - `Full` if the open needs a record, and there are as many records as there may be.
+    /// - `Full` if there is no such record and there are as many records as there may be.
     /// - `OutOfMemory` if there is no memory.
     pub fn enter(
         &mut self,
@@ -148,17 +154,12 @@ impl RecordLog {
         ensures err { OnErr result (self.new ≡ self.old) }
     {
         self.log.reserve()?;
-        self.records.soundness();
-        let before = self.records.count(handle, guid, agent, controller, attr);
-        self.records.add(handle, guid, agent, controller, attr)?;
-        self.log.note(RecordChange::Enter {
-            handle,
-            guid,
-            agent,
-            controller,
-            attr,
-            before,
-        });
+        let rows = &mut self.rows;
+        let tally = &mut self.tally;
+        let change = enter_row(
+            rows, tally, self.limit, handle, guid, agent, controller, attr,
+        )?;
+        self.log.note(change);
         Ok(())
     }
 
@@ -179,13 +180,11 @@ impl RecordLog {
         ensures marks { self.new.marks ≡ self.old.marks }
         ensures err { OnErr result (self.new ≡ self.old) }
     {
-        self.take(&Choice::OfInterface {
-            handle,
-            guid,
-            agent: Some(agent),
-            controller: Some(controller),
-            bits: Attr::ALL_BITS,
-        })
+        self.log.reserve()?;
+        let places = places_left(self.alloc, &self.rows, handle, guid, agent, controller)?;
+        let change = close_rows(&mut self.rows, &mut self.tally, places);
+        self.log.note(change);
+        Ok(())
     }
 
     /// Removes an agent's records on all interfaces of a handle.
@@ -199,12 +198,11 @@ impl RecordLog {
         ensures marks { self.new.marks ≡ self.old.marks }
         ensures err { OnErr result (self.new ≡ self.old) }
     {
-        self.take(&Choice::OnHandle {
-            handle,
-            agent: Some(agent),
-            controller: None,
-            bits: Attr::ALL_BITS,
-        })
+        self.log.reserve()?;
+        let places = places_of_agent(self.alloc, &self.rows, handle, agent)?;
+        let change = close_rows(&mut self.rows, &mut self.tally, places);
+        self.log.note(change);
+        Ok(())
     }
 
     /// Removes an agent's records for a child on all interfaces of a handle.
@@ -223,12 +221,11 @@ impl RecordLog {
         ensures marks { self.new.marks ≡ self.old.marks }
         ensures err { OnErr result (self.new ≡ self.old) }
     {
-        self.take(&Choice::OnHandle {
-            handle,
-            agent: Some(agent),
-            controller: Some(child.get()),
-            bits: Attr::BY_CHILD_CONTROLLER,
-        })
+        self.log.reserve()?;
+        let places = places_of_child(self.alloc, &self.rows, handle, agent, child)?;
+        let change = close_rows(&mut self.rows, &mut self.tally, places);
+        self.log.note(change);
+        Ok(())
     }
 
     /// Removes the records on an interface that keep nobody out.
@@ -242,13 +239,10 @@ impl RecordLog {
         ensures marks { self.new.marks ≡ self.old.marks }
         ensures err { OnErr result (self.new ≡ self.old) }
     {
-        self.take(&Choice::OfInterface {
-            handle,
-            guid,
-            agent: None,
-            controller: None,
-            bits: Attr::WEAK_BITS,
-        })
+        self.log.reserve()?;
+        let change = cut_weak(&mut self.rows, &mut self.tally, handle, guid);
+        self.log.note(change);
+        Ok(())
     }
 
     /// Removes all records of an interface that has been removed, and if its handle has been removed with it
@@ -267,28 +261,9 @@ impl RecordLog {
         ensures marks { self.new.marks ≡ self.old.marks }
         ensures err { OnErr result (self.new ≡ self.old) }
     {
-        self.take(&Choice::WithInterface {
-            handle,
-            guid,
-            gone: goes,
-        })
-    }
-
-    /// Removes the records that are chosen.
-    ///
-    /// # Errors
-    ///
-    /// `OutOfMemory` if there is no memory; all is then as before.
-    fn take(&mut self, choice: &Choice) -> Result<(), OutOfMemory>
-        ensures now { OnOk result (self.new.now ≡
-            without_passing (picks choice.now) self.old.now) }
-        ensures marks { self.new.marks ≡ self.old.marks }
-        ensures err { OnErr result (self.new ≡ self.old) }
-    {
         self.log.reserve()?;
-        self.records.soundness();
-        let gone = Rows::of(self.records.take(choice)?);
-        self.log.note(RecordChange::Leave { gone });
+        let change = cut_all(&mut self.rows, &mut self.tally, handle, guid, goes);
+        self.log.note(change);
         Ok(())
     }
 
@@ -301,7 +276,8 @@ impl RecordLog {
         ensures now { self.new.now ≡ without_agents_of image guid db.now self.old.now }
         ensures marks { self.new.marks ≡ [] }
     {
-        self.records.drop_agents(db, image, guid);
+        self.rows.close_where(&AgentsOf { image, guid, db });
+        self.tally.exact = false;
     }
 
     /// Removes the records whose interface is not installed, whose agent is not live, or whose controller is neither
@@ -311,15 +287,26 @@ impl RecordLog {
         ensures now { self.new.now ≡ with_live_parties db.now self.old.now }
         ensures marks { self.new.marks ≡ [] }
     {
-        self.records.drop_dead(db);
+        self.rows.close_where(&Dead(db));
+        self.tally.exact = false;
     }
 
-    /// Changes nothing that can be seen, and gives up memory for records that are no longer there. For a moment in
-    /// which no mark is open. Takes no memory.
+    /// Changes nothing that can be seen. If no mark is open, and the rows that do not count are more than 1,024 and an eighth
+    /// of the records together, the memory of those rows is given up.
     pub fn tidy(&mut self)
         ensures { self.new ≡ self.old }
     {
-        self.records.tidy();
+        if self.log.carried().is_none() {
+            renew(self.alloc, &mut self.rows, &mut self.tally);
+        }
+    }
+
+    /// Changes nothing that can be seen: finds out which records of an interface are there, so that what is asked of the
+    /// interface next does not look at those that are not. It pays before an interface is asked several times.
+    pub fn make_ready(&mut self, handle: Handle, guid: Guid)
+        ensures { self.new ≡ self.old }
+    {
+        self.rows.make_ready(handle, guid);
     }
 
     // ---- looking
@@ -330,21 +317,25 @@ impl RecordLog {
     pub fn soundness(&self)
         ensures { IsSound self.now.now }
     {
-        self.records.soundness();
+        let _rows = &self.rows;
     }
 
     /// How many records there are. Takes no memory.
     pub fn len(&self) -> u32
         ensures { result ≡ length self.now.now.entries }
     {
-        self.records.len()
+        // reading the limit shows that it fits in 32 bits
+        let _most = self.limit;
+        count_of(&self.rows, &self.tally) as u32
     }
 
     /// How many records an interface has: the length of `list`. Takes no memory.
     pub fn count_on(&self, handle: Handle, guid: Guid) -> u32
         ensures { result ≡ length (records_of self.now.now.entries handle guid) }
     {
-        self.records.count_on(handle, guid)
+        // reading the limit shows that it fits in 32 bits
+        let _most = self.limit;
+        self.rows.count_on(handle, guid) as u32
     }
 
     /// The records of an interface in order of their making (UEFI 2.8, 7.3: OpenProtocolInformation).
@@ -356,7 +347,7 @@ impl RecordLog {
         ensures { IfOk result (λ records. records.items ≡
             records_of self.now.now.entries handle guid) }
     {
-        self.records.list(handle, guid)
+        self.rows.list(handle, guid)
     }
 
     /// Whether an interface has a record of `agent`, if it is given, and for `controller`, if it is given, with a
@@ -372,8 +363,12 @@ impl RecordLog {
         ensures { let records = records_of self.now.now.entries handle guid in
             result ≡ list_any (is_meant agent controller bits) records }
     {
-        self.records
-            .has_meant(handle, guid, agent, controller, bits)
+        let meant = Meant {
+            agent,
+            controller,
+            bits,
+        };
+        has_meant(&self.rows, handle, guid, &meant)
     }
 
     /// What the records of an interface say about an open by an agent for a controller, as `judge` does. Takes no
@@ -389,7 +384,7 @@ impl RecordLog {
         ensures { result ≡
             judge (records_of self.now.now.entries handle guid) agent controller attr }
     {
-        self.records.judged(handle, guid, agent, controller, attr)
+        judged(&self.rows, handle, guid, agent, controller, attr)
     }
 
     /// Whether an open by an agent for a controller would need a record when there are already as many as there may
@@ -404,7 +399,10 @@ impl RecordLog {
     ) -> bool
         ensures { result ≡ is_full handle guid agent controller attr self.now.now }
     {
-        self.records.is_full(handle, guid, agent, controller, attr)
+        if is_open(&self.rows, handle, guid, agent, controller, attr) {
+            return false;
+        }
+        is_at_limit(&self.rows, &self.tally, self.limit)
     }
 
     /// The children of a handle: the controllers, except 0, of the BY_CHILD_CONTROLLER records on it, of `agent` if
@@ -423,7 +421,8 @@ impl RecordLog {
         ensures { IfOk result (λ found. found.items ≡
             children self.now.now.entries db.now handle agent) }
     {
-        self.records.children_of(db, handle, agent)
+        let protocols = db.protocols_of(handle)?;
+        children_on(self.alloc, &self.rows, handle, protocols.as_slice(), agent)
     }
 
     /// The agents that manage a handle: those of the records with BY_DRIVER on it. Each is listed once, in the order
@@ -436,7 +435,8 @@ impl RecordLog {
         ensures { IfOk result (λ found. found.items ≡
             managers self.now.now.entries db.now handle) }
     {
-        self.records.managers_of(db, handle)
+        let protocols = db.protocols_of(handle)?;
+        managers_on(self.alloc, &self.rows, handle, protocols.as_slice())
     }
 
     /// The agent that manages a handle by one of its interfaces: that of the interface's record with BY_DRIVER, if
@@ -445,7 +445,7 @@ impl RecordLog {
         ensures { let records = records_of self.now.now.entries handle guid in
             result ≡ option_map (λ (rec : RecValue). rec.agent) (find is_managing records) }
     {
-        self.records.manager_on(handle, guid)
+        manager_on(&self.rows, handle, guid)
     }
 
     /// Whether an image is in use (UEFI 2.8, 7.4: UnloadImage): an agent that belongs to it, as `drop_agents` says,
@@ -454,31 +454,6 @@ impl RecordLog {
     pub fn has_use_of(&self, db: &Db, image: Handle, guid: Guid) -> bool
         ensures { result ≡ has_use_of image guid db.now self.now.now }
     {
-        self.records.has_use_of(db, image, guid)
-    }
-}
-
-/// Takes a change back, the last that is not taken back yet.
-///
-/// # Errors
-///
-/// `OutOfMemory` if there is no memory.
-fn take_back(records: &mut Records, change: RecordChange) -> Result<(), OutOfMemory>
-    requires { CanTakeBack change records.old }
-    ensures { OnOk result (records.new ≡ change_back change records.old) }
-{
-    match change {
-        RecordChange::Enter {
-            handle,
-            guid,
-            agent,
-            controller,
-            attr,
-            before,
-        } => {
-            records.set_count(handle, guid, agent, controller, attr, before);
-            Ok(())
-        }
-        RecordChange::Leave { gone } => records.put_back(gone.into_vec()),
+        self.rows.any(&UsesOf { image, guid, db })
     }
 }

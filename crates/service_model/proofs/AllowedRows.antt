@@ -13,7 +13,7 @@ use Rattle.guest_memory.specs.GuestMemory.{is_readable, is_writable_range}
 use Rattle.handle_db.specs.Database.{interface_of, is_live}
 use Rattle.std.specs.List.{list_any}
 use Rattle.open_records.specs.OpenRecords.{is_equal, is_strong, records_of}
-use Rattle.interface_records.specs.declared.open_record.Rec.{Rec}
+use Rattle.open_records.specs.declared.open_record.Rec.{Rec}
 use Rattle.open_records.specs.Verdicts.{against, judge, may_enter}
 use Rattle.open_records.specs.declared.verdict.Verdict.{Verdict}
 use Rattle.open_records.specs.declared.verdict.Verdict.TheVariants.{Add, Count, Already, Denied, MustDisconnect}

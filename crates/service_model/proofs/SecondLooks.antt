@@ -10,7 +10,7 @@ use Rattle.handle_db.proofs.OnlyOne.{find-none}
 use Rattle.open_records.specs.Adding.{is_full}
 use Rattle.open_records.specs.OpenRecords.{is_equal, is_strong, records_of}
 use Rattle.open_records.specs.Verdicts.{against, judge, may_enter}
-use Rattle.interface_records.specs.declared.open_record.Rec.{Rec}
+use Rattle.open_records.specs.declared.open_record.Rec.{Rec}
 use Rattle.open_records.specs.declared.verdict.Verdict.TheVariants.{Add, Count}
 use Rattle.world_model.specs.World.{Soft, State}
 use Rattle.world_model.specs.Kept.{IsKept}

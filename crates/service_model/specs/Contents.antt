@@ -5,7 +5,7 @@ use Rattle.byteorder.specs.Endian.{little_bytes}
 use Rattle.uuid.specs.Parts.{swap_fields}
 use Rattle.handle_db.specs.Database.{handles_with, protocols_of}
 use Rattle.open_records.specs.OpenRecords.{records_of}
-use Rattle.interface_records.specs.declared.open_record.Rec.{Rec}
+use Rattle.open_records.specs.declared.open_record.Rec.{Rec}
 use Rattle.world_model.specs.World.{State}
 use Rattle.service_model.specs.declared.plan.Contents.{Contents}
 use Rattle.service_model.specs.declared.plan.Contents.TheVariants.{Handles, Opens, Protocols}

@@ -9,7 +9,7 @@ use Rattle.open_records.specs.OpenRecords.{IsSound as RecordsAreSound, RecordTab
 use Rattle.open_records.specs.Parties.{is_none_or_live, with_live_parties}
 use Rattle.open_records.specs.Verdicts.{judge, may_enter}
 use Rattle.open_records.specs.declared.fault.RecFault.{RecFault}
-use Rattle.record_table.specs.declared.open_record.KeyedRecord.{KeyedRecord}
+use Rattle.open_records.specs.declared.open_record.KeyedRecord.{KeyedRecord}
 use Rattle.world_model.proofs.KeepingRecords.{entering, kept_with, live_kept, none_kept as none_have}
 use Rattle.world_model.proofs.RecordParties.{has_from, records-filter}
 use Rattle.record_log.specs.MarkedRecords.{MarkedRecords, newest_of as newest_records, older_marks as older_records}

@@ -422,6 +422,13 @@ impl SoftLog {
         self.records.tidy();
     }
 
+    /// Changes nothing that can be seen, and makes it fast to ask which open records an interface has.
+    pub fn make_ready(&mut self, handle: Handle, guid: Guid)
+        ensures { self.new ≡ self.old }
+    {
+        self.records.make_ready(handle, guid);
+    }
+
     // ---- images
 
     /// Removes an image with its loaded image block, its interface with the records, and its thunks.
@@ -839,7 +846,7 @@ fn put_back(
     ensures limit { records.new.now.limit ≡ records.old.now.limit }
 {
     take_all_back(soft, log, &mark)?;
-    records.rollback(records_mark)?;
+    records.rollback(records_mark);
     log.commit(mark);
     Ok(())
 }

@@ -10,8 +10,8 @@ use Rattle.handle_db.specs.declared.handle_entry.HandleEntry.{HandleEntry}
 use Rattle.open_records.specs.OpenRecords.{is_of, records_of}
 use Rattle.open_records.specs.Leaving.{fits}
 use Rattle.open_records.specs.Managing.{child_numbers, children, is_child, once_each, records_on}
-use Rattle.record_table.specs.declared.open_record.KeyedRecord.{KeyedRecord}
-use Rattle.interface_records.specs.declared.open_record.Rec.{Rec}
+use Rattle.open_records.specs.declared.open_record.KeyedRecord.{KeyedRecord}
+use Rattle.open_records.specs.declared.open_record.Rec.{Rec}
 use Rattle.world_model.specs.Children.{ChildrenAreFew}
 use Rattle.world_model.specs.Kept.{are_parties_live}
 use Rattle.world_model.specs.Records.{is_none_or_live}

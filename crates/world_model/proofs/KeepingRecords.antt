@@ -1,8 +1,8 @@
 -- Entering and leaving open records leave what holds of every soft part.
 use Rattle.std.proofs.Common.{◌≡◌, ℕ, Bool, true, false, cond, ◌&&◌, not, nat_eq, List, [], ◌∷◌, filter, Some, None, refl, arith}
 use Rattle.std.specs.List.{list_all}
-use Rattle.record_table.specs.declared.open_record.KeyedRecord.{KeyedRecord}
-use Rattle.interface_records.specs.declared.open_record.Rec.{Rec}
+use Rattle.open_records.specs.declared.open_record.KeyedRecord.{KeyedRecord}
+use Rattle.open_records.specs.declared.open_record.Rec.{Rec}
 use Rattle.open_records.specs.OpenRecords.{RecordTable, is_of}
 use Rattle.open_records.specs.Adding.{added}
 use Rattle.open_records.specs.Leaving.{cut, cut_on, is_meant}

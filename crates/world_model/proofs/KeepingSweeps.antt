@@ -17,7 +17,7 @@ use Rattle.handle_db.proofs.OnlyOne.{find-none}
 use Rattle.handle_db.proofs.Order.{head_rises, none_below, rise_from-filter, rise_from-map}
 use Rattle.open_records.specs.OpenRecords.{RecordTable}
 use Rattle.open_records.specs.Parties.{with_live_parties, without_agents_of}
-use Rattle.record_table.specs.declared.open_record.KeyedRecord.{KeyedRecord}
+use Rattle.open_records.specs.declared.open_record.KeyedRecord.{KeyedRecord}
 use Rattle.open_records.proofs.RemovalLemmas.{filter_sound}
 use Rattle.world_model.specs.declared.bus_child.BusChild.{BusChild}
 use Rattle.world_model.specs.declared.image.LoadedImage.{LoadedImage}

@@ -9,13 +9,13 @@ use Rattle.std.proofs.lemmas.Slice.Eq.{bytes_eq-Decides}
 use Rattle.handle_db.specs.declared.handle_entry.HandleEntry.{HandleEntry}
 use Rattle.handle_db.specs.declared.handle_entry.Interface.{Interface}
 use Rattle.handle_db.specs.Database.{Database, interfaces_in, is_guid, is_handle, is_live}
-use Rattle.record_table.specs.declared.open_record.KeyedRecord.{KeyedRecord}
-use Rattle.interface_records.specs.declared.open_record.Rec.{Rec}
+use Rattle.open_records.specs.declared.open_record.KeyedRecord.{KeyedRecord}
+use Rattle.open_records.specs.declared.open_record.Rec.{Rec}
 use Rattle.open_records.specs.OpenRecords.{is_equal, is_of, records_of}
 use Rattle.open_records.specs.Leaving.{is_named}
-use Rattle.record_table.proofs.ListLemmas.{any_map}
+use Rattle.open_records.proofs.ListLemmas.{any_map}
 use Rattle.open_records.proofs.LawProofs.{no_equal_records, one_holder}
-use Rattle.record_table.proofs.Order.{of_itself}
+use Rattle.open_records.proofs.Order.{of_itself}
 use Rattle.world_model.specs.World.{Soft}
 use Rattle.world_model.specs.Records.{is_none_or_live}
 use Rattle.world_model.specs.Kept.{IsKept, are_parties_live}

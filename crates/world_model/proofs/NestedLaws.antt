@@ -11,13 +11,13 @@ use Rattle.handle_db.specs.declared.handle_entry.Interface.{Interface}
 use Rattle.handle_db.specs.Database.{Database, has, has_any, interfaces_in, is_guid, is_handle, is_live}
 use Rattle.handle_db.specs.Installing.{appended}
 use Rattle.handle_db.specs.Removing.{removed, without_guid}
-use Rattle.record_table.specs.declared.open_record.KeyedRecord.{KeyedRecord}
-use Rattle.interface_records.specs.declared.open_record.Rec.{Rec}
+use Rattle.open_records.specs.declared.open_record.KeyedRecord.{KeyedRecord}
+use Rattle.open_records.specs.declared.open_record.Rec.{Rec}
 use Rattle.open_records.specs.OpenRecords.{RecordTable, is_of, records_of}
 use Rattle.open_records.specs.Adding.{added, entered}
 use Rattle.open_records.specs.Laws.{is_same}
 use Rattle.open_records.specs.Leaving.{cut, cut_on, is_meant, is_named, swept}
-use Rattle.record_table.proofs.ListLemmas.{any_map}
+use Rattle.open_records.proofs.ListLemmas.{any_map}
 use Rattle.open_records.proofs.LawProofs.{added_here, added_not_elsewhere, cut_here, cut_not_elsewhere, swept_everywhere}
 use Rattle.world_model.specs.World.{Soft}
 use Rattle.world_model.specs.Records.{with_records}

@@ -11,7 +11,7 @@ use Rattle.handle_db.specs.Database.{Database, IsSound as DatabaseIsSound, has, 
 use Rattle.handle_db.specs.Installing.{appended, installed, new_entry}
 use Rattle.handle_db.specs.Removing.{removed, without_guid, without_interface}
 use Rattle.handle_db.proofs.Keeping.{kept_parts}
-use Rattle.record_table.specs.declared.open_record.KeyedRecord.{KeyedRecord}
+use Rattle.open_records.specs.declared.open_record.KeyedRecord.{KeyedRecord}
 use Rattle.open_records.specs.OpenRecords.{RecordTable, is_before, is_after, is_equal, is_kept, is_of, records_of}
 use Rattle.open_records.specs.Adding.{added, first, raised, with_new, with_raised}
 use Rattle.open_records.specs.Leaving.{cut, is_meant, is_named, swept}

@@ -11,7 +11,7 @@ use Rattle.handle_db.specs.Database.{Database}
 use Rattle.handle_db.specs.OwnedInterfaces.{is_owned_by, without_owned}
 use Rattle.open_records.specs.OpenRecords.{RecordTable}
 use Rattle.open_records.specs.Parties.{are_parties_live, belongs_to, has_use_of}
-use Rattle.record_table.specs.declared.open_record.KeyedRecord.{KeyedRecord}
+use Rattle.open_records.specs.declared.open_record.KeyedRecord.{KeyedRecord}
 use Rattle.world_model.specs.World.{Soft}
 use Rattle.world_model.specs.Images.{image_of, without_image}
 use Rattle.world_model.specs.Thunks.{without_thunks}

@@ -7,8 +7,8 @@ use Rattle.handle_db.specs.declared.handle_entry.Interface.{Interface}
 use Rattle.handle_db.specs.Database.{is_live}
 use Rattle.open_records.specs.OpenRecords.{is_equal, is_strong, records_of}
 use Rattle.open_records.specs.Leaving.{is_named}
-use Rattle.record_table.specs.declared.open_record.KeyedRecord.{KeyedRecord}
-use Rattle.interface_records.specs.declared.open_record.Rec.{Rec}
+use Rattle.open_records.specs.declared.open_record.KeyedRecord.{KeyedRecord}
+use Rattle.open_records.specs.declared.open_record.Rec.{Rec}
 use Rattle.world_model.specs.World.{Soft}
 use Rattle.world_model.specs.Kept.{IsKept}
 

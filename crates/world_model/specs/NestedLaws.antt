@@ -8,7 +8,7 @@ use Rattle.handle_db.specs.Database.{has}
 use Rattle.open_records.specs.Adding.{entered}
 use Rattle.open_records.specs.Laws.{is_same}
 use Rattle.open_records.specs.Leaving.{is_meant, is_named}
-use Rattle.interface_records.specs.declared.open_record.Rec.{Rec}
+use Rattle.open_records.specs.declared.open_record.Rec.{Rec}
 use Rattle.world_model.specs.World.{Soft}
 use Rattle.world_model.specs.Interfaces.{interface_added, interface_removed}
 use Rattle.world_model.specs.Records.{all_left, child_left, record_entered, records_left, weak_dropped}

@@ -1,16 +1,20 @@
-use Rattle.std.proofs.Common.{◌≡◌, ◌∙◌, ℕ, Bool, List}
-use Rattle.std.specs.Prelude.{Result, Ok, Err, OnOk}
-use Rattle.open_records.specs.OpenRecords.{RecordTable}
-use Rattle.open_records.specs.PuttingBack.{picks, without_passing}
-use Rattle.open_records.specs.declared.undoing.Choice.TheVariants.{WithInterface}
-use Rattle.record_log.specs.MarkedRecords.{interface_cut}
-use Rattle.record_log.proofs.Removed.{cut_is_choice}
+use Rattle.std.proofs.Common.{ap, ◌∙◌}
+use Rattle.record_log.specs.MarkedRecords.{MarkedRecords, interface_cut}
+use Rattle.record_log.proofs.RecordMarks.{inside_noted, tables_noted}
 use Rattle.record_log.proofs.record_log.RecordLog.remove_interface.Goals as goal
 
-cut_done : {T E : Type 0} (result : Result T E) (before after : RecordTable) (handle : ℕ) (guid : List ℕ) (goes : Bool) → OnOk result (after ≡ without_passing (picks (WithInterface handle guid goes)) before)
-    → OnOk result (after ≡ interface_cut handle guid goes before)
-cut_done (Ok done) before after handle guid goes is = is ∙ cut_is_choice handle guid goes before
-cut_done (Err error) before after handle guid goes is = tt
+pub cut_all-change-requires : goal.cut_all-change-requires
+cut_all-change-requires c = c.self.invariant.tallied
 
-pub returns-clause-now : goal.returns-clause-now
-returns-clause-now c = cut_done c.take.result c.args.self.now.now c.take.new.self.now c.args.handle c.args.guid c.args.goes c.take.ensures.now
+pub invariant_of-self-2 : goal.invariant_of-self-2
+invariant_of-self-2 c =
+    let inside = c.self.inside in
+    let is = c.cut_all-change.ensures.change inside.limit c.self.invariant.now in
+    rw (c.note.ensures, c.reserve.ensures.marks) (inside_noted inside.limit inside.rows c.cut_all-change.new.rows inside.log.marks c.cut_all-change.result (interface_cut c.args.handle c.args.guid c.args.goes) is inside.tally c.cut_all-change.new.tally c.cut_all-change.ensures.tally c.self.invariant)
+
+pub returns-clause-marks : goal.returns-clause-marks
+returns-clause-marks c =
+    let inside = c.self.inside in
+    let is = c.cut_all-change.ensures.change inside.limit c.self.invariant.now in
+    rw (c.note.ensures, c.reserve.ensures.marks) (tables_noted inside.limit inside.rows c.cut_all-change.new.rows inside.log.marks c.cut_all-change.result (interface_cut c.args.handle c.args.guid c.args.goes) is)
+    ∙ ap (λ (v : MarkedRecords). v.marks) c.self.view_is

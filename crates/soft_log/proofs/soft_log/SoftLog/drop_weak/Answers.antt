@@ -2,7 +2,7 @@ use Rattle.std.proofs.Common.{◌&&◌, not, None}
 use Rattle.fw_types.specs.declared.attr.TheConstants.Attr.{WEAK_BITS}
 use Rattle.open_records.specs.Leaving.{is_meant}
 use Rattle.open_records.specs.OpenRecords.{is_of}
-use Rattle.record_table.specs.declared.open_record.KeyedRecord.{KeyedRecord}
+use Rattle.open_records.specs.declared.open_record.KeyedRecord.{KeyedRecord}
 use Rattle.soft_log.proofs.Merged.{fewer_inside}
 use Rattle.soft_log.proofs.soft_log.SoftLog.drop_weak.Goals as goal
 

@@ -1,7 +1,7 @@
 use Rattle.std.proofs.Common.{◌&&◌, not, nat_eq, Some}
 use Rattle.fw_types.specs.declared.attr.TheConstants.Attr.{BY_CHILD_CONTROLLER}
 use Rattle.open_records.specs.Leaving.{is_meant}
-use Rattle.record_table.specs.declared.open_record.KeyedRecord.{KeyedRecord}
+use Rattle.open_records.specs.declared.open_record.KeyedRecord.{KeyedRecord}
 use Rattle.soft_log.proofs.Merged.{fewer_inside}
 use Rattle.soft_log.proofs.soft_log.SoftLog.leave_child.Goals as goal
 

@@ -1,7 +1,7 @@
 use Rattle.std.proofs.Common.{◌≡◌, ℕ, not, [], Option, Some, None, ap, sym, refl, ◌∙◌}
 use Rattle.open_records.specs.OpenRecords.{RecordTable}
 use Rattle.open_records.specs.Parties.{belongs_to}
-use Rattle.record_table.specs.declared.open_record.KeyedRecord.{KeyedRecord}
+use Rattle.open_records.specs.declared.open_record.KeyedRecord.{KeyedRecord}
 use Rattle.world_model.specs.declared.image.LoadedImage.{LoadedImage}
 use Rattle.world_model.specs.ImageSweep.{database_without, image_swept, swept_of}
 use Rattle.world_model.specs.Images.{image_of}

@@ -1,6 +1,0 @@
-use Rattle.interface_records.specs.Records.{is_named}
-use Rattle.interface_records.proofs.StampLemmas.{any_in}
-use Rattle.interface_records.proofs.interface_records.InterfaceRecords.has_named.Goals as goal
-
-pub returns : goal.returns
-returns c = rw (← c.self.view_is) (any_in (is_named c.args.name) c.self.inside.rows c.soundness.ensures.rising _ c.has_named.ensures)

@@ -1,6 +1,0 @@
-pub mod Records
-pub mod Undoing
-pub mod Stamped
-pub mod Searching
-pub mod Laws
-pub mod Listing

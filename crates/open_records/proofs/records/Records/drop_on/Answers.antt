@@ -1,6 +1,0 @@
-use Rattle.open_records.specs.Leaving.{is_meant}
-use Rattle.open_records.proofs.RemovalLemmas.{cut_on_sound}
-use Rattle.open_records.proofs.records.Records.drop_on.Goals as goal
-
-pub invariant_of-self : goal.invariant_of-self
-invariant_of-self c = rw c.drop_picked.ensures (cut_on_sound c.args.handle (is_meant c.args.agent c.args.controller c.args.bits) (record { entries = c.self.inside.table; limit = c.self.inside.limit }) c.self.invariant)

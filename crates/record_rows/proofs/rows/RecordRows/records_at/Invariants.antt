@@ -1,0 +1,11 @@
+use Rattle.std.proofs.Common.{◌≡◌, ◌++◌, drop, map}
+use Rattle.open_records.specs.declared.open_record.KeyedRecord.{KeyedRecord}
+use Rattle.record_rows.specs.Asking.{shown_among}
+use Rattle.record_rows.specs.Inside.{rows_of}
+use Rattle.record_rows.proofs.rows.RecordRows.records_at.Given as goal
+
+-- what was found, with what the other places give, is the whole
+abbrev pub invariant-loop-place : goal.invariant-loop-place
+invariant-loop-place l =
+    l.found.items ++ map (λ (one : KeyedRecord). one.rec) (shown_among (rows_of l.self) (drop l.place-index l.places))
+    ≡ map (λ (one : KeyedRecord). one.rec) (shown_among (rows_of l.self) l.places)
